@@ -1,0 +1,9 @@
+pub mod Numbers
+pub mod TwosComplement
+pub mod Cursors
+pub mod Runs
+pub mod Strings
+pub mod Padding
+pub mod Puts
+pub mod Lists
+pub mod Back

@@ -1,0 +1,13 @@
+use Rattle.core.specs.Taken.{moved}
+use borrow.Author.Needs.{needs}
+use Rattle.core.proofs.cursor.Cursor.moved.Statement.{statement}
+use Rattle.core.proofs.cursor.Cursor.moved.Tie as tie
+use Rattle.core.proofs.cursor.Cursor.moved.Reads as reads
+use Rattle.core.proofs.cursor.Cursor.moved.Lts as lts
+
+returns : tie.Need-returns
+unfolding moved
+returns c = search needs
+
+pub moved-spec : {M : Type 1} → statement M
+moved-spec = tie.close (tie.spec returns)

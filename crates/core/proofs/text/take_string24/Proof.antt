@@ -1,0 +1,20 @@
+use Rattle.core.specs.Taken.{string24Taken}
+use borrow.Author.Needs.{needs}
+use Rattle.core.proofs.text.take_string24.Statement.{statement}
+use Rattle.core.proofs.text.take_string24.Tie as tie
+use Rattle.core.proofs.text.take_string24.Reads as reads
+use Rattle.core.proofs.text.take_string24.Lts as lts
+use Rattle.core.proofs.text.take_string.Reads as take-string-reads
+
+slice-aggregate-take-string : tie.Need-slice-aggregate-take-string
+slice-aggregate-take-string c = search needs
+
+take-string-requires : tie.Need-take-string-requires
+take-string-requires c κs = search needs
+
+returns : tie.Need-returns
+unfolding string24Taken
+returns c = rw (c .before .take-string .ensures .0, c .before .take-string .ensures .1)
+
+pub take-string24-spec : {M : Type 1} → statement M
+take-string24-spec = tie.close (tie.spec slice-aggregate-take-string take-string-requires returns)

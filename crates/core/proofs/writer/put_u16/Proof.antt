@@ -1,0 +1,19 @@
+use Rattle.core.proofs.Puts.{little-only}
+use borrow.Author.Needs.{needs}
+use Rattle.core.proofs.writer.put_u16.Statement.{statement}
+use Rattle.core.proofs.writer.put_u16.Tie as tie
+use Rattle.core.proofs.writer.put_u16.Reads as reads
+use Rattle.core.proofs.writer.put_u16.Lts as lts
+use Rattle.core.proofs.writer.put_little16.Reads as put-little16-reads
+
+put-little16-requires : tie.Need-put-little16-requires
+put-little16-requires c κs = search needs
+
+same-length : tie.Need-same-length
+same-length c = search needs
+
+returns : tie.Need-returns
+returns c = little-only _ _ (c .before .before .put-little16 .ensures)
+
+pub put-u16-spec : {M : Type 1} → statement M
+put-u16-spec = tie.close (tie.spec put-little16-requires same-length returns)

@@ -1,0 +1,58 @@
+-- Document 01's number and figures of each refusal, in the order of its table. A figure that the table does not name is 0.
+use Prim.Native.Nat.{ℕ}
+use Rattle.core.specs.declared.error.Refusal.{Refusal}
+use Rattle.core.specs.declared.error.Refusal.the-variants.{TooLong, BadPlace, ShortList, UnexpectedEof, NoNul, PerCharacter, IllFormedUtf8, SectionSize, BadName, Reserve0, ListLength, BadFlip, TextLength, IllFormedUtf16, NoLineBit, OutputEnd}
+
+abbrev pub numberOf : Refusal → ℕ
+numberOf (TooLong length) = 1
+numberOf (BadPlace place) = 2
+numberOf (ShortList list need) = 3
+numberOf (UnexpectedEof offset requested) = 4
+numberOf (NoNul place) = 5
+numberOf (PerCharacter value) = 6
+numberOf (IllFormedUtf8 place which) = 7
+numberOf (SectionSize place size) = 8
+numberOf (BadName which) = 9
+numberOf (Reserve0 value) = 10
+numberOf (ListLength list length) = 11
+numberOf (BadFlip frame flip) = 12
+numberOf (TextLength units text) = 13
+numberOf (IllFormedUtf16 units) = 14
+numberOf NoLineBit = 15
+numberOf (OutputEnd end length) = 16
+
+abbrev pub figureA : Refusal → ℕ
+figureA (TooLong length) = length
+figureA (BadPlace place) = place
+figureA (ShortList list need) = list
+figureA (UnexpectedEof offset requested) = offset
+figureA (NoNul place) = place
+figureA (PerCharacter value) = value
+figureA (IllFormedUtf8 place which) = place
+figureA (SectionSize place size) = place
+figureA (BadName which) = which
+figureA (Reserve0 value) = value
+figureA (ListLength list length) = list
+figureA (BadFlip frame flip) = frame
+figureA (TextLength units text) = units
+figureA (IllFormedUtf16 units) = units
+figureA NoLineBit = 0
+figureA (OutputEnd end length) = end
+
+abbrev pub figureB : Refusal → ℕ
+figureB (TooLong length) = 0
+figureB (BadPlace place) = 0
+figureB (ShortList list need) = need
+figureB (UnexpectedEof offset requested) = requested
+figureB (NoNul place) = 0
+figureB (PerCharacter value) = 0
+figureB (IllFormedUtf8 place which) = which
+figureB (SectionSize place size) = size
+figureB (BadName which) = 0
+figureB (Reserve0 value) = 0
+figureB (ListLength list length) = length
+figureB (BadFlip frame flip) = flip
+figureB (TextLength units text) = text
+figureB (IllFormedUtf16 units) = 0
+figureB NoLineBit = 0
+figureB (OutputEnd end length) = length

@@ -1,9 +1,13 @@
--- The moves of a cursor. What moves it are `advanced` and `moved` alone; every other law goes by these four.
+-- The moves of a cursor. What moves it are `advanced` and `moved` alone; every other law goes by these five.
 use mathlib.Core.Path.{_≡_, refl, ap}
 use Prim.Native.Nat.{ℕ, _+_}
 use native.Mathlib.Nat.{add-zero, add-assoc}
-use Rattle.core.specs.Taken.{advanced, moved}
+use Rattle.core.specs.Taken.{start, advanced, moved}
 use Rattle.core.specs.declared.cursor.Cursor.{Cursor}
+
+pub pos-start : (place : ℕ) → start place .pos ≡ place
+unfolding start
+pos-start place = refl
 
 pub pos-advanced : (c : Cursor) (w : ℕ) → advanced c w .pos ≡ c .pos + w
 unfolding advanced

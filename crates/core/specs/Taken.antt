@@ -21,7 +21,10 @@ use Rattle.core.specs.declared.text.FixedString8.{FixedString8}
 use Rattle.core.specs.declared.text.String24Taken.{String24Taken}
 use Rattle.core.specs.declared.text.String8Taken.{String8Taken}
 
--- ---- the only two ways in which a cursor moves: width bytes were read; it was set to a place
+-- ---- where a cursor begins, and the only two ways in which it moves: width bytes were read; it was set to a place
+
+unfoldable pub start : ℕ → Cursor
+start place = record { pos = place }
 
 unfoldable pub advanced : Cursor → ℕ → Cursor
 advanced c width = record { pos = c .pos + width }

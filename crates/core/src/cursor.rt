@@ -6,7 +6,7 @@ ghost use mathlib.Core.List.{[], _∷_};
 ghost use Prim.Native.Nat.{_+_, _^_, _≤_, _<_};
 ghost use lib.ListN.{length};
 ghost use Rattle.core.specs.Bytes.{little, numberAt};
-ghost use Rattle.core.specs.Taken.{advanced, moved, stopIf, sought, u8Taken, u16Taken, u32Taken, i16Taken};
+ghost use Rattle.core.specs.Taken.{start, advanced, moved, stopIf, sought, u8Taken, u16Taken, u32Taken, i16Taken};
 
 // In which order the bytes of a number stand.
 pub enum ByteOrder {
@@ -45,6 +45,13 @@ pub struct I16Taken {
 }
 
 impl Cursor {
+    // Where a run begins.
+    pub fn start(place: usize) -> Cursor
+        ensures { λ r. ⌜ r ≡ start place ⌝ }
+    {
+        Cursor { pos: place }
+    }
+
     // After width bytes were read.
     pub fn advanced(self, width: usize) -> Cursor
         requires { ⌜ self .pos + width < 2 ^ 64 ⌝ }

@@ -1,0 +1,20 @@
+use Rattle.core.specs.Checks.{bodyChecked}
+use borrow.Author.Needs.{needs}
+use Rattle.core.proofs.checks.body_checked.Statement.{statement}
+use Rattle.core.proofs.checks.body_checked.Tie as tie
+use Rattle.core.proofs.checks.body_checked.Reads as reads
+use Rattle.core.proofs.checks.body_checked.Lts as lts
+use Rattle.core.proofs.cursor.stop_if.Reads as stop-if-reads
+
+stop-if-requires : tie.Need-stop-if-requires
+stop-if-requires c κs = search needs
+
+stop-if-requires-2 : tie.Need-stop-if-requires-2
+stop-if-requires-2 c κs = search needs
+
+returns : tie.Need-returns
+unfolding bodyChecked
+returns c = rw (c .stop-if2 .ensures, c .before .stop-if .ensures)
+
+pub body-checked-spec : {M : Type 1} → statement M
+body-checked-spec = tie.close (tie.spec stop-if-requires stop-if-requires-2 returns)

@@ -1,0 +1,26 @@
+use Rattle.core.specs.Checks.{bodyStart}
+use borrow.Author.Needs.{needs}
+use Rattle.core.proofs.checks.body_start.Statement.{statement}
+use Rattle.core.proofs.checks.body_start.Tie as tie
+use Rattle.core.proofs.checks.body_start.Reads as reads
+use Rattle.core.proofs.checks.body_start.Lts as lts
+use Rattle.core.proofs.checks.body_checked.Reads as body-checked-reads
+use Rattle.core.proofs.checks.length_checked.Reads as length-checked-reads
+use Rattle.core.proofs.cursor.Cursor.start.Reads as start-reads
+
+start-requires : tie.Need-start-requires
+start-requires c κs = search needs
+
+length-checked-requires : tie.Need-length-checked-requires
+length-checked-requires c κs = search needs
+
+body-checked-requires : tie.Need-body-checked-requires
+body-checked-requires c κs = search needs
+
+returns : tie.Need-returns
+unfolding bodyStart
+returns c = rw (c .body-checked .ensures, c .before .length-checked .ensures, c .before .before .start .ensures)
+
+pub body-start-spec : {M : Type 1} → statement M
+body-start-spec =
+    tie.close (tie.spec start-requires length-checked-requires body-checked-requires returns)

@@ -1,0 +1,17 @@
+use Rattle.core.specs.Checks.{endChecked}
+use borrow.Author.Needs.{needs}
+use Rattle.core.proofs.checks.end_checked.Statement.{statement}
+use Rattle.core.proofs.checks.end_checked.Tie as tie
+use Rattle.core.proofs.checks.end_checked.Reads as reads
+use Rattle.core.proofs.checks.end_checked.Lts as lts
+use Rattle.core.proofs.cursor.stop_if.Reads as stop-if-reads
+
+stop-if-requires : tie.Need-stop-if-requires
+stop-if-requires c κs = search needs
+
+returns : tie.Need-returns
+unfolding endChecked
+returns c = c .stop-if .ensures
+
+pub end-checked-spec : {M : Type 1} → statement M
+end-checked-spec = tie.close (tie.spec stop-if-requires returns)

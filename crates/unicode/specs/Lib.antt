@@ -1,0 +1,2 @@
+pub mod Utf16
+pub mod Utf8

@@ -1,12 +1,18 @@
 -- What passed checks tell, and what lets a check pass.
 use mathlib.Core.Path.{_≡_, refl, sym, ap, _∙_}
-use Prim.Native.Nat.{ℕ, _%_, _≤_, _<_}
+use Prim.Native.Nat.{ℕ, _+_, _%_, _≤_, _<_}
+use mathlib.Core.List.{List}
 use native.Mathlib.Omega.{arith}
 use mathlib.Core.Bool.{Bool, true, false}
 use lib.Dec.{ltb}
 use borrow.Author.Tests.{ltb-false, le-ltb}
 use Rattle.core.specs.Taken.{start, stopIf}
-use Rattle.core.specs.Checks.{lengthChecked, bodyChecked, sectionChecked, bodyStart, sectionStart, listChecked, endChecked}
+use Rattle.core.specs.Checks.{lengthChecked, bodyChecked, sectionChecked, bodyStart, sectionStart, listChecked, endChecked, unlessRefused, writtenOf}
+use Rattle.core.specs.Bytes.{splice, Put}
+use Rattle.core.specs.declared.error.Refusal.{Refusal}
+use Rattle.core.specs.declared.error.Refusal.the-variants.{OutputEnd}
+use Rattle.core.specs.declared.checks.Written.{Written}
+use Rattle.core.specs.declared.checks.Written.the-variants as Writtens
 use Rattle.core.specs.declared.cursor.Cursor.{Cursor}
 use Rattle.core.specs.declared.cursor.Place.{Place}
 use Rattle.core.specs.declared.cursor.Place.the-variants.{At, Refused}
@@ -40,6 +46,15 @@ list-cleared p list need n c e = let h = cleared p _ _ c e in (h .0, ltb-false _
 pub end-cleared : (p : Place) (end n : ℕ) (c : Cursor) → endChecked p end n ≡ At c → (p ≡ At c) × (end ≤ n)
 unfolding endChecked
 end-cleared p end n c e = let h = cleared p _ _ c e in (h .0, ltb-false _ _ (h .1))
+
+-- the last check, as the code makes it
+pub end-here : (p : Place) (end n : ℕ) (c : Cursor) → p ≡ At c → stopIf (At c) (ltb n end) (OutputEnd end n) ≡ endChecked p end n
+unfolding endChecked
+end-here p end n c e = rw e
+
+pub end-stays : (p : Place) (end n : ℕ) (why : Refusal) → p ≡ Refused why → Refused why ≡ endChecked p end n
+unfolding endChecked stopIf
+end-stays p end n why e = rw e
 
 -- what checks 1 and 2 tell of a buffer of n bytes
 pub record BodyOk (n b : ℕ) : Type 0 where
@@ -82,3 +97,15 @@ list-passes c list need n h = passed c _ _ (le-ltb n need h)
 pub end-passes : (c : Cursor) (end n : ℕ) → end ≤ n → endChecked (At c) end n ≡ At c
 unfolding endChecked
 end-passes c end n h = passed c _ _ (le-ltb n end h)
+
+-- ---- what a write answers, and the output after it
+
+pub wrote : {o o′ e : List ℕ} {at w r : ℕ} (p : Place) (c : Cursor) → p ≡ At c → Put o at w e r o′
+    → (Writtens.End r ≡ writtenOf p (at + w)) × (o′ ≡ unlessRefused p o (splice o at e))
+unfolding writtenOf unlessRefused
+wrote p c h k = rw (h, k .place, k .bytes) (refl, refl)
+
+pub not-wrote : (o new : List ℕ) (end : ℕ) (p : Place) (why : Refusal) → p ≡ Refused why
+    → (Writtens.Refused why ≡ writtenOf p end) × (o ≡ unlessRefused p o new)
+unfolding writtenOf unlessRefused
+not-wrote o new end p why h = rw h (refl, refl)

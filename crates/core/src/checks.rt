@@ -4,6 +4,7 @@ use crate::cursor::Cursor;
 use crate::cursor::Place;
 use crate::error::Refusal;
 ghost use mathlib.Core.Path.{_≡_};
+ghost use Prim.Native.Nat.{_+_, _^_, _<_};
 ghost use Rattle.core.specs.Checks.{lengthChecked, bodyChecked, sectionChecked, bodyStart, sectionStart, listChecked, endChecked, parsedOf};
 
 // What a body read answers: the place after the body, or why not.
@@ -64,11 +65,18 @@ pub fn list_checked(p: Place, list: usize, need: usize, length: usize) -> Place
     cursor::stop_if(p, length < need, Refusal::ShortList { list, need })
 }
 
-// 16: an end that passes the output.
-pub fn end_checked(p: Place, end: usize, length: usize) -> Place
-    ensures { λ r. ⌜ r ≡ endChecked p end length ⌝ }
+// 16: the end of width bytes at a place, where it passes the output.
+pub fn end_checked(p: Place, place: usize, width: usize, length: usize) -> Place
+    requires { ⌜ ((c : Cursor) → p ≡ Place.At c → place + width < 2 ^ 64) ⌝ }
+    ensures { λ r. ⌜ r ≡ endChecked p (place + width) length ⌝ }
 {
-    cursor::stop_if(p, length < end, Refusal::OutputEnd { end, length })
+    match p {
+        Place::At(c) => {
+            let end = place + width;
+            cursor::stop_if(Place::At(c), length < end, Refusal::OutputEnd { end, length })
+        }
+        Place::Refused(why) => Place::Refused(why),
+    }
 }
 
 // What a body read answers where a run stands.

@@ -1,0 +1,4 @@
+pub mod Packed
+pub mod Enums
+pub mod Fields
+pub mod Examples

@@ -1,0 +1,16 @@
+-- `text::TextPaneFlags::decode` meets its contract.
+use native.Mathlib.Nat.{div-one}
+use Rattle.flags.specs.Fields.{textFlagsOf}
+use borrow.Author.Needs.{needs}
+use Rattle.flags.proofs.text.TextPaneFlags.decode.Statement.{statement}
+use Rattle.flags.proofs.text.TextPaneFlags.decode.Tie as tie
+
+decode-requires : tie.Need-decode-requires
+decode-requires c κs = search needs
+
+returns : tie.Need-returns
+unfolding textFlagsOf
+returns c = rw (div-one (c .before .args .raw), c .decode .ensures)
+
+pub decode-spec : {M : Type 1} → statement M
+decode-spec = tie.close (tie.spec decode-requires returns)

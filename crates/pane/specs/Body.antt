@@ -1,0 +1,36 @@
+-- The body calls of a base pane.
+use Prim.Native.Nat.{ℕ, _+_}
+use mathlib.Core.List.{List}
+use lib.ListN.{length}
+use Rattle.core.specs.Bytes.{splice}
+use Rattle.core.specs.Checks.{bodyStart, endChecked, parsedOf, unlessRefused, writtenOf}
+use Rattle.core.specs.declared.cursor.ByteOrder.{ByteOrder}
+use Rattle.core.specs.declared.cursor.Place.{Place}
+use Rattle.core.specs.declared.checks.Written.{Written}
+use Rattle.pane.specs.Pane.{paneTaken, blankPane, encodePane}
+use Rattle.pane.specs.Checks.{textsChecked, namesChecked, reserveChecked}
+use Rattle.pane.specs.declared.Pane.{Pane}
+use Rattle.pane.specs.declared.PaneTaken.{PaneTaken}
+use Rattle.pane.specs.declared.body.PaneParsed.{PaneParsed}
+
+-- a read from a place p of the run, of a body at B: the fields with 4, then 7
+unfoldable pub paneRead : ByteOrder → List ℕ → Place → ℕ → PaneParsed
+paneRead order s p body =
+    let t : PaneTaken = paneTaken order s p in
+    let q : Place = textsChecked (t .then) (t .pane) body in
+    record { answer = parsedOf q; pane = unlessRefused q blankPane (t .pane) }
+
+-- THE BODY READ at B of s: 1, 2, and then so
+unfoldable pub paneParsed : ByteOrder → List ℕ → ℕ → PaneParsed
+paneParsed order s body = paneRead order s (bodyStart (length s) body) body
+
+-- 1, 2, 9, 10 and 16 of a write into n bytes
+unfoldable pub paneWriteChecked : Pane → ℕ → ℕ → Place
+paneWriteChecked b n body = endChecked (reserveChecked (namesChecked (bodyStart n body) b) b) (body + 76) n
+
+-- THE BODY WRITE of b at B of an output o of n bytes: its answer, and the output after it
+unfoldable pub paneWritten : Pane → ℕ → ℕ → Written
+paneWritten b n body = writtenOf (paneWriteChecked b n body) (body + 76)
+
+unfoldable pub paneOutput : ByteOrder → Pane → List ℕ → ℕ → List ℕ
+paneOutput order b o body = unlessRefused (paneWriteChecked b (length o) body) o (splice o body (encodePane order b))

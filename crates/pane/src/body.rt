@@ -1,0 +1,88 @@
+// The body calls of a base pane: any bytes are read or refused, any pane is written or refused.
+use crate::Pane;
+use crate::checks::names_checked;
+use crate::checks::reserve_checked;
+use crate::checks::texts_checked;
+use core::checks;
+use core::checks::Parsed;
+use core::checks::Written;
+use core::cursor::ByteOrder;
+use core::cursor::Place;
+use core::error::Refusal;
+ghost use mathlib.Core.Path.{_≡_};
+ghost use Prim.Native.Nat.{_^_, _<_};
+ghost use lib.ListN.{length};
+ghost use Rattle.pane.specs.Pane.{blankPane};
+ghost use Rattle.pane.specs.Body.{paneRead, paneParsed, paneWriteChecked, paneWritten, paneOutput};
+
+// What a body read gives: its answer, and the pane, blank where it was refused.
+pub struct PaneParsed {
+    pub answer: Parsed,
+    pub pane: Pane,
+}
+
+fn refused(why: Refusal) -> PaneParsed
+    ensures { λ r. ⌜ (r .answer ≡ Parsed.Refused why) × (r .pane ≡ blankPane) ⌝ }
+{
+    PaneParsed {
+        answer: Parsed::Refused(why),
+        pane: crate::blank_pane(),
+    }
+}
+
+// The reads, and check 7.
+fn read(order: ByteOrder, data: &[u8], p: Place, place: usize) -> PaneParsed
+    requires { ⌜ place < 2 ^ 32 ⌝ }
+    ensures { λ r. ⌜ r ≡ paneRead order (now («data» .entry)) p place ⌝ }
+{
+    let taken = crate::take_pane(order, data, p);
+    let pane = taken.pane;
+    let q = taken.then;
+    let then = texts_checked(q, pane, place);
+    match then {
+        Place::At(c) => {
+            let end = c.pos;
+            PaneParsed {
+                answer: Parsed::Read { end },
+                pane,
+            }
+        }
+        Place::Refused(why) => refused(why),
+    }
+}
+
+// The pane at a place: checks 1, 2, the reads with 4, then 7.
+pub fn parse(order: ByteOrder, data: &[u8], place: usize) -> PaneParsed
+    ensures { λ r. ⌜ r ≡ paneParsed order (now («data» .entry)) place ⌝ }
+{
+    let p = checks::body_start(data.len(), place);
+    match p {
+        Place::At(c) => read(order, data, Place::At(c), place),
+        Place::Refused(why) => refused(why),
+    }
+}
+
+// 1, 2, 9, 10 and 16
+fn write_checked(b: Pane, length: usize, place: usize) -> Place
+    ensures { λ r. ⌜ r ≡ paneWriteChecked b length place ⌝ }
+{
+    let p = checks::body_start(length, place);
+    let p = names_checked(p, b);
+    let p = reserve_checked(p, b);
+    checks::end_checked(p, place, 76, length)
+}
+
+// The pane at a place: checks 1, 2, 9, 10, 16. A refusal leaves the output as it was; an accepted write answers its end, and changes no byte but its own.
+pub fn write(order: ByteOrder, b: Pane, out: &mut [u8], place: usize) -> Written
+    ensures { λ r. ⌜ r ≡ paneWritten b (length (now (out .entry))) place ⌝ }
+    ensures { λ _. ⌜ now (out .exit) ≡ paneOutput order b (now (out .entry)) place ⌝ }
+{
+    let p = write_checked(b, out.len(), place);
+    match p {
+        Place::At(_) => {
+            let end = crate::put_pane(order, out, place, b);
+            Written::End(end)
+        }
+        Place::Refused(why) => Written::Refused(why),
+    }
+}

@@ -1,0 +1,204 @@
+// The base pane, with which every kind begins: 76 bytes, read and written.
+pub mod body;
+pub mod checks;
+
+use core::cursor;
+use core::cursor::ByteOrder;
+use core::cursor::Place;
+use core::text;
+use core::text::FixedString24;
+use core::text::FixedString8;
+use core::writer;
+use flags::pane::PaneFlags;
+use flags::pane::PaneFlagsEx;
+use flags::position::BflytPosition;
+use ui2d::Binary32;
+use ui2d::Vector2f;
+use ui2d::Vector3f;
+ghost use mathlib.Core.Path.{_≡_};
+ghost use Prim.Native.Nat.{_+_, _≤_, _<_};
+ghost use lib.ListN.{length};
+ghost use Rattle.core.specs.Bytes.{Room, Put};
+ghost use Rattle.pane.specs.Pane.{paneTaken, blankPane, encodeHead, encodeTransform, encodePane, Sound};
+ghost use Rattle.pane.specs.Typed.{TypedPane};
+
+pub struct Pane {
+    pub pane_flags: PaneFlags,
+    pub position: BflytPosition,
+    pub alpha: u8,
+    pub flag_ex: PaneFlagsEx,
+    pub pane_name: FixedString24,
+    pub user_name: FixedString8,
+    pub translation: Vector3f,
+    pub rotation: Vector3f,
+    pub scale: Vector2f,
+    pub size: Vector2f,
+}
+
+pub struct PaneTaken {
+    pub pane: Pane,
+    pub then: Place,
+}
+
+// ---- reading
+
+// Where the run is refused the fields that were not reached are those of no bytes.
+pub fn take_pane(order: ByteOrder, data: &[u8], p: Place) -> PaneTaken
+    ensures { λ r. ⌜ r ≡ paneTaken order (now («data» .entry)) p ⌝ }
+{
+    let flags = cursor::take_u8(order, data, p);
+    let p1 = flags.then;
+    let position = cursor::take_u8(order, data, p1);
+    let p2 = position.then;
+    let alpha = cursor::take_u8(order, data, p2);
+    let p3 = alpha.then;
+    let ex = cursor::take_u8(order, data, p3);
+    let p4 = ex.then;
+    let name = text::take_string24(data, p4);
+    let p5 = name.then;
+    let user = text::take_string8(data, p5);
+    let p6 = user.then;
+    let translation = ui2d::take_vector3(order, data, p6);
+    let p7 = translation.then;
+    let rotation = ui2d::take_vector3(order, data, p7);
+    let p8 = rotation.then;
+    let scale = ui2d::take_vector2(order, data, p8);
+    let p9 = scale.then;
+    let size = ui2d::take_vector2(order, data, p9);
+    let pane_name = name.value;
+    let user_name = user.value;
+    let translation_value = translation.value;
+    let rotation_value = rotation.value;
+    let scale_value = scale.value;
+    let size_value = size.value;
+    let then = size.then;
+    let pane = Pane {
+        pane_flags: PaneFlags::decode(flags.value),
+        position: BflytPosition::decode(position.value),
+        alpha: alpha.value,
+        flag_ex: PaneFlagsEx::decode(ex.value),
+        pane_name,
+        user_name,
+        translation: translation_value,
+        rotation: rotation_value,
+        scale: scale_value,
+        size: size_value,
+    };
+    PaneTaken { pane, then }
+}
+
+fn zero2() -> Vector2f
+    ensures { λ r. ⌜ r ≡ blankPane .scale ⌝ }
+{
+    Vector2f {
+        x: Binary32 { bits: 0 },
+        y: Binary32 { bits: 0 },
+    }
+}
+
+fn zero3() -> Vector3f
+    ensures { λ r. ⌜ r ≡ blankPane .translation ⌝ }
+{
+    Vector3f {
+        x: Binary32 { bits: 0 },
+        y: Binary32 { bits: 0 },
+        z: Binary32 { bits: 0 },
+    }
+}
+
+// The pane of no bytes: numbers 0, first cases, false.
+pub fn blank_pane() -> Pane
+    ensures { λ r. ⌜ r ≡ blankPane ⌝ }
+{
+    let translation = zero3();
+    let rotation = zero3();
+    let scale = zero2();
+    let size = zero2();
+    Pane {
+        pane_flags: PaneFlags::decode(0),
+        position: BflytPosition::decode(0),
+        alpha: 0,
+        flag_ex: PaneFlagsEx::decode(0),
+        pane_name: FixedString24 {
+            bytes: [0u8; 24],
+            count: 0,
+        },
+        user_name: FixedString8 {
+            bytes: [0u8; 8],
+            count: 0,
+        },
+        translation,
+        rotation,
+        scale,
+        size,
+    }
+}
+
+// ---- writing
+
+// Flags, position, alpha, flag_ex and the names, 36 bytes.
+fn put_head(order: ByteOrder, out: &mut [u8], p: usize, b: Pane) -> usize
+    requires { ⌜ Sound b × Room (now out) p 36 ⌝ }
+    ensures { λ r. ⌜ Put (now (out .entry)) p 36 (encodeHead order b) r (now (out .exit)) ⌝ }
+{
+    let f = b.pane_flags;
+    let g = b.position;
+    let x = b.flag_ex;
+    let flags = f.encode();
+    let position = g.encode();
+    let flag_ex = x.encode();
+    let q = writer::put_u8(order, out, p, flags);
+    let q = writer::put_u8(order, out, q, position);
+    let q = writer::put_u8(order, out, q, b.alpha);
+    let q = writer::put_u8(order, out, q, flag_ex);
+    let q = writer::put_string24(out, q, b.pane_name);
+    writer::put_string8(out, q, b.user_name)
+}
+
+// Translation, rotation, scale and size, 40 bytes.
+fn put_transform(order: ByteOrder, out: &mut [u8], p: usize, b: Pane) -> usize
+    requires { ⌜ Room (now out) p 40 ⌝ }
+    ensures { λ r. ⌜ Put (now (out .entry)) p 40 (encodeTransform order b) r (now (out .exit)) ⌝ }
+{
+    let q = ui2d::put_vector3(order, out, p, b.translation);
+    let q = ui2d::put_vector3(order, out, q, b.rotation);
+    let q = ui2d::put_vector2(order, out, q, b.scale);
+    ui2d::put_vector2(order, out, q, b.size)
+}
+
+// The pane, 76 bytes.
+pub fn put_pane(order: ByteOrder, out: &mut [u8], p: usize, b: Pane) -> usize
+    requires { ⌜ Sound b × Room (now out) p 76 ⌝ }
+    ensures { λ r. ⌜ Put (now (out .entry)) p 76 (encodePane order b) r (now (out .exit)) ⌝ }
+{
+    let q = put_head(order, out, p, b);
+    put_transform(order, out, q, b)
+}
+
+// ---- what the types say
+
+fn typed_byte(v: u8)
+    ensures { λ _. ⌜ v < 256 ⌝ }
+{}
+
+fn typed_string24(n: FixedString24)
+    ensures { λ _. ⌜ length (n .bytes) ≡ 24 ⌝ }
+{}
+
+fn typed_string8(n: FixedString8)
+    ensures { λ _. ⌜ length (n .bytes) ≡ 8 ⌝ }
+{}
+
+// Every pane is one that TypedPane describes.
+pub fn typed_pane(b: Pane)
+    ensures { λ _. ⌜ TypedPane b ⌝ }
+{
+    typed_byte(b.alpha);
+    typed_byte(b.flag_ex.reserve0);
+    typed_string24(b.pane_name);
+    typed_string8(b.user_name);
+    ui2d::typed_vector3(b.translation);
+    ui2d::typed_vector3(b.rotation);
+    ui2d::typed_vector2(b.scale);
+    ui2d::typed_vector2(b.size);
+}

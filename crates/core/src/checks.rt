@@ -73,7 +73,11 @@ pub fn end_checked(p: Place, place: usize, width: usize, length: usize) -> Place
     match p {
         Place::At(c) => {
             let end = place + width;
-            cursor::stop_if(Place::At(c), length < end, Refusal::OutputEnd { end, length })
+            cursor::stop_if(
+                Place::At(c),
+                length < end,
+                Refusal::OutputEnd { end, length },
+            )
         }
         Place::Refused(why) => Place::Refused(why),
     }

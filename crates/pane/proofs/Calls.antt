@@ -1,0 +1,50 @@
+-- The body read as the code takes it.
+use mathlib.Core.Path.{_≡_, refl, sym, ap, _∙_}
+use Prim.Native.Nat.{ℕ, _^_, _<_}
+use native.Mathlib.Omega.{arith}
+use mathlib.Core.List.{List}
+use lib.ListN.{length}
+use Rattle.core.specs.Taken.{stopIf}
+use Rattle.core.specs.Checks.{bodyStart, parsedOf, unlessRefused}
+use Rattle.core.specs.declared.error.Refusal.{Refusal}
+use Rattle.core.specs.declared.cursor.ByteOrder.{ByteOrder}
+use Rattle.core.specs.declared.cursor.Cursor.{Cursor}
+use Rattle.core.specs.declared.cursor.Place.{Place}
+use Rattle.core.specs.declared.cursor.Place.the-variants.{At, Refused}
+use Rattle.core.specs.declared.checks.Parsed.the-variants as Parseds
+use Rattle.core.proofs.Checked.{body-started}
+use Rattle.pane.specs.Pane.{paneTaken, blankPane}
+use Rattle.pane.specs.Checks.{textsChecked}
+use Rattle.pane.specs.Body.{paneRead, paneParsed}
+use Rattle.pane.specs.declared.Pane.{Pane}
+use Rattle.pane.specs.declared.PaneTaken.{PaneTaken}
+use Rattle.pane.specs.declared.body.PaneParsed.{PaneParsed}
+use Rattle.pane.proofs.Run.{pane-stays}
+
+-- a body that passed checks 1 and 2 is at no large place
+pub start-small : (n body : ℕ) (c : Cursor) → bodyStart n body ≡ At c → body < 2 ^ 32
+start-small n body c e = let (h, o) = body-started n body c e in omega (arith, o .most, o .within)
+
+-- check 7 of a run that was refused
+pub texts-stay : (why : Refusal) (b : Pane) (body : ℕ) → textsChecked (Refused why) b body ≡ Refused why
+unfolding textsChecked stopIf
+texts-stay why b body = refl
+
+module _ (order : ByteOrder) (s : List ℕ) (p : Place) (body : ℕ) (t : PaneTaken) (q : Place) (e : t ≡ paneTaken order s p) (f : q ≡ textsChecked (t .then) (t .pane) body) where
+  pub read-got : (c : Cursor) → q ≡ At c → _≡_ {A = PaneParsed} (record { answer = Parseds.Read (c .pos); pane = t .pane }) (paneRead order s p body)
+  unfolding paneRead parsedOf unlessRefused
+  read-got c h = rw (← e, ← f, h)
+
+  pub read-refused : (why : Refusal) → q ≡ Refused why → (r : PaneParsed) → r .answer ≡ Parseds.Refused why → r .pane ≡ blankPane → r ≡ paneRead order s p body
+  unfolding paneRead parsedOf unlessRefused
+  read-refused why h r a b = rw (← e, ← f, h, ← a, ← b)
+
+pub parsed : (order : ByteOrder) (s : List ℕ) (body : ℕ) (c : Cursor) → bodyStart (length s) body ≡ At c → paneRead order s (At c) body ≡ paneParsed order s body
+unfolding paneParsed
+parsed order s body c e = rw e
+
+pub parsed-refused : (order : ByteOrder) (s : List ℕ) (body : ℕ) (why : Refusal) → bodyStart (length s) body ≡ Refused why
+    → (r : PaneParsed) → r .answer ≡ Parseds.Refused why → r .pane ≡ blankPane → r ≡ paneParsed order s body
+unfolding paneParsed paneRead parsedOf unlessRefused
+parsed-refused order s body why e r a b =
+    rw (e, pane-stays order s why, texts-stay why (paneTaken order s (Refused why) .pane) body, ← a, ← b)

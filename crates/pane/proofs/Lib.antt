@@ -1,0 +1,5 @@
+pub mod Run
+pub mod Cleared
+pub mod Calls
+pub mod Back
+pub mod Same

@@ -1,0 +1,4 @@
+pub mod Floats
+pub mod Parts
+pub mod Quads
+pub mod Typed

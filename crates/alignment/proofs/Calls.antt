@@ -1,0 +1,56 @@
+-- The body read as the code takes it.
+use mathlib.Core.Path.{_≡_, refl, sym, ap, _∙_}
+use Prim.Native.Nat.{ℕ}
+use mathlib.Core.List.{List}
+use lib.ListN.{length}
+use Rattle.core.specs.Taken.{numberTaken}
+use Rattle.core.specs.Checks.{bodyStart, parsedOf, unlessRefused}
+use Rattle.core.specs.declared.error.Refusal.{Refusal}
+use Rattle.core.specs.declared.cursor.ByteOrder.{ByteOrder}
+use Rattle.core.specs.declared.cursor.Cursor.{Cursor}
+use Rattle.core.specs.declared.cursor.Place.{Place}
+use Rattle.core.specs.declared.cursor.Place.the-variants.{At, Refused}
+use Rattle.core.specs.declared.checks.Parsed.the-variants as Parseds
+use Rattle.pane.specs.Pane.{paneTaken, blankPane}
+use Rattle.pane.specs.Checks.{textsChecked}
+use Rattle.pane.specs.declared.PaneTaken.{PaneTaken}
+use Rattle.pane.proofs.Run.{pane-stays}
+use Rattle.pane.proofs.Calls.{texts-stay}
+use Rattle.alignment.specs.Alignment.{alignmentTaken, blankAlignment}
+use Rattle.alignment.specs.Body.{Blank, alignmentRead, alignmentParsed}
+use Rattle.alignment.specs.declared.AlignmentTaken.{AlignmentTaken}
+use Rattle.alignment.specs.declared.body.AlignmentParsed.{AlignmentParsed}
+
+-- a run that was refused stays so
+pub alignment-stays : (order : ByteOrder) (s : List ℕ) (why : Refusal) → alignmentTaken order s (Refused why) .then ≡ Refused why
+unfolding alignmentTaken numberTaken
+alignment-stays order s why = refl
+
+module _ (order : ByteOrder) (s : List ℕ) (p : Place) (body : ℕ) (b : PaneTaken) (a : AlignmentTaken) (q : Place)
+    (e : b ≡ paneTaken order s p) (f : a ≡ alignmentTaken order s (b .then)) (g : q ≡ textsChecked (a .then) (b .pane) body) where
+  pub read-got : (c : Cursor) → q ≡ At c
+      → _≡_ {A = AlignmentParsed} (record { answer = Parseds.Read (c .pos); base = b .pane; alignment = a .alignment }) (alignmentRead order s p body)
+  unfolding alignmentRead parsedOf unlessRefused
+  read-got c h = rw (← e, ← f, ← g, h)
+
+  pub read-refused : (why : Refusal) → q ≡ Refused why → (r : AlignmentParsed) → Blank why r → r ≡ alignmentRead order s p body
+  unfolding alignmentRead parsedOf unlessRefused
+  read-refused why h r k = rw (← e, ← f, ← g, h, ← k .answer, ← k .base, ← k .alignment)
+
+pub parsed : (order : ByteOrder) (s : List ℕ) (body : ℕ) (c : Cursor) → bodyStart (length s) body ≡ At c → alignmentRead order s (At c) body ≡ alignmentParsed order s body
+unfolding alignmentParsed
+parsed order s body c e = rw e
+
+pub parsed-refused : (order : ByteOrder) (s : List ℕ) (body : ℕ) (why : Refusal) → bodyStart (length s) body ≡ Refused why
+    → (r : AlignmentParsed) → Blank why r → r ≡ alignmentParsed order s body
+unfolding alignmentParsed alignmentRead parsedOf unlessRefused
+parsed-refused order s body why e r k =
+    rw (
+      e,
+      pane-stays order s why,
+      alignment-stays order s why,
+      texts-stay why (paneTaken order s (Refused why) .pane) body,
+      ← k .answer,
+      ← k .base,
+      ← k .alignment,
+    )

@@ -1,0 +1,57 @@
+-- The body calls of an alignment pane.
+use mathlib.Core.Path.{_≡_}
+use Prim.Native.Nat.{ℕ, _+_}
+use mathlib.Core.List.{List, _++_}
+use lib.ListN.{length}
+use Rattle.core.specs.Bytes.{splice}
+use Rattle.core.specs.Checks.{bodyStart, endChecked, parsedOf, unlessRefused, writtenOf}
+use Rattle.core.specs.declared.cursor.ByteOrder.{ByteOrder}
+use Rattle.core.specs.declared.cursor.Place.{Place}
+use Rattle.core.specs.declared.error.Refusal.{Refusal}
+use Rattle.core.specs.declared.checks.Parsed.the-variants as Parseds
+use Rattle.core.specs.declared.checks.Written.{Written}
+use Rattle.pane.specs.Pane.{paneTaken, blankPane, encodePane}
+use Rattle.pane.specs.Checks.{textsChecked, namesChecked, reserveChecked}
+use Rattle.pane.specs.declared.Pane.{Pane}
+use Rattle.pane.specs.declared.PaneTaken.{PaneTaken}
+use Rattle.alignment.specs.Alignment.{alignmentTaken, blankAlignment, encodeAlignment}
+use Rattle.alignment.specs.declared.AlignmentPane.{AlignmentPane}
+use Rattle.alignment.specs.declared.AlignmentTaken.{AlignmentTaken}
+use Rattle.alignment.specs.declared.body.AlignmentParsed.{AlignmentParsed}
+
+-- what a refused read gives
+pub record Blank (why : Refusal) (r : AlignmentParsed) : Type 0 where
+  pub answer : r .answer ≡ Parseds.Refused why
+  pub base : r .base ≡ blankPane
+  pub alignment : r .alignment ≡ blankAlignment
+
+-- a read from a place p of the run, of a body at B: the base, the own fields, then 7
+unfoldable pub alignmentRead : ByteOrder → List ℕ → Place → ℕ → AlignmentParsed
+alignmentRead order s p body =
+    let b : PaneTaken = paneTaken order s p in
+    let a : AlignmentTaken = alignmentTaken order s (b .then) in
+    let q : Place = textsChecked (a .then) (b .pane) body in
+    record {
+      answer = parsedOf q;
+      base = unlessRefused q blankPane (b .pane);
+      alignment = unlessRefused q blankAlignment (a .alignment);
+    }
+
+-- THE BODY READ at B of s: 1, 2, and then so
+unfoldable pub alignmentParsed : ByteOrder → List ℕ → ℕ → AlignmentParsed
+alignmentParsed order s body = alignmentRead order s (bodyStart (length s) body) body
+
+-- 1, 2, 9, 10 and 16 of a write into n bytes
+unfoldable pub alignmentWriteChecked : Pane → ℕ → ℕ → Place
+alignmentWriteChecked b n body = endChecked (reserveChecked (namesChecked (bodyStart n body) b) b) (body + 88) n
+
+-- base, and the own fields: 88 bytes
+unfoldable pub encodeBody : ByteOrder → Pane → AlignmentPane → List ℕ
+encodeBody order b a = encodePane order b ++ encodeAlignment order a
+
+-- THE BODY WRITE at B of an output o of n bytes: its answer, and the output after it
+unfoldable pub alignmentWritten : Pane → ℕ → ℕ → Written
+alignmentWritten b n body = writtenOf (alignmentWriteChecked b n body) (body + 88)
+
+unfoldable pub alignmentOutput : ByteOrder → Pane → AlignmentPane → List ℕ → ℕ → List ℕ
+alignmentOutput order b a o body = unlessRefused (alignmentWriteChecked b (length o) body) o (splice o body (encodeBody order b a))

@@ -1,0 +1,105 @@
+// The body calls of an alignment pane: any bytes are read or refused, any pane is written or refused.
+use crate::AlignmentPane;
+use core::checks;
+use core::checks::Parsed;
+use core::checks::Written;
+use core::cursor::ByteOrder;
+use core::cursor::Place;
+use core::error::Refusal;
+use pane::Pane;
+use pane::checks::names_checked;
+use pane::checks::reserve_checked;
+use pane::checks::texts_checked;
+ghost use mathlib.Core.Path.{_≡_};
+ghost use Prim.Native.Nat.{_^_, _<_};
+ghost use lib.ListN.{length};
+ghost use Rattle.core.specs.Bytes.{Room, Put};
+ghost use Rattle.pane.specs.Pane.{Sound};
+ghost use Rattle.alignment.specs.Body.{Blank, encodeBody, alignmentRead, alignmentParsed, alignmentWriteChecked, alignmentWritten, alignmentOutput};
+
+// What a body read gives: its answer, and the pane, blank where it was refused.
+pub struct AlignmentParsed {
+    pub answer: Parsed,
+    pub base: Pane,
+    pub alignment: AlignmentPane,
+}
+
+fn refused(why: Refusal) -> AlignmentParsed
+    ensures { λ r. ⌜ Blank why r ⌝ }
+{
+    AlignmentParsed {
+        answer: Parsed::Refused(why),
+        base: pane::blank_pane(),
+        alignment: crate::blank_alignment(),
+    }
+}
+
+// The reads, and check 7.
+fn read(order: ByteOrder, data: &[u8], p: Place, place: usize) -> AlignmentParsed
+    requires { ⌜ place < 2 ^ 32 ⌝ }
+    ensures { λ r. ⌜ r ≡ alignmentRead order (now («data» .entry)) p place ⌝ }
+{
+    let taken = pane::take_pane(order, data, p);
+    let base = taken.pane;
+    let p1 = taken.then;
+    let own = crate::take_alignment(order, data, p1);
+    let alignment = own.alignment;
+    let p2 = own.then;
+    let then = texts_checked(p2, base, place);
+    match then {
+        Place::At(c) => {
+            let end = c.pos;
+            AlignmentParsed {
+                answer: Parsed::Read { end },
+                base,
+                alignment,
+            }
+        }
+        Place::Refused(why) => refused(why),
+    }
+}
+
+// The alignment pane at a place: checks 1, 2, the reads with 4, then 7.
+pub fn parse(order: ByteOrder, data: &[u8], place: usize) -> AlignmentParsed
+    ensures { λ r. ⌜ r ≡ alignmentParsed order (now («data» .entry)) place ⌝ }
+{
+    let p = checks::body_start(data.len(), place);
+    match p {
+        Place::At(c) => read(order, data, Place::At(c), place),
+        Place::Refused(why) => refused(why),
+    }
+}
+
+// 1, 2, 9, 10 and 16
+fn write_checked(b: Pane, length: usize, place: usize) -> Place
+    ensures { λ r. ⌜ r ≡ alignmentWriteChecked b length place ⌝ }
+{
+    let p = checks::body_start(length, place);
+    let p = names_checked(p, b);
+    let p = reserve_checked(p, b);
+    checks::end_checked(p, place, 88, length)
+}
+
+// The base, and what the kind adds.
+pub fn put_body(order: ByteOrder, out: &mut [u8], p: usize, b: Pane, a: AlignmentPane) -> usize
+    requires { ⌜ Sound b × Room (now out) p 88 ⌝ }
+    ensures { λ r. ⌜ Put (now (out .entry)) p 88 (encodeBody order b a) r (now (out .exit)) ⌝ }
+{
+    let q = pane::put_pane(order, out, p, b);
+    crate::put_alignment(order, out, q, a)
+}
+
+// The alignment pane at a place: checks 1, 2, 9, 10, 16. A refusal leaves the output as it was; an accepted write answers its end, and changes no byte but its own.
+pub fn write(order: ByteOrder, b: Pane, a: AlignmentPane, out: &mut [u8], place: usize) -> Written
+    ensures { λ r. ⌜ r ≡ alignmentWritten b (length (now (out .entry))) place ⌝ }
+    ensures { λ _. ⌜ now (out .exit) ≡ alignmentOutput order b a (now (out .entry)) place ⌝ }
+{
+    let p = write_checked(b, out.len(), place);
+    match p {
+        Place::At(_) => {
+            let end = put_body(order, out, place, b, a);
+            Written::End(end)
+        }
+        Place::Refused(why) => Written::Refused(why),
+    }
+}

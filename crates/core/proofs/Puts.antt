@@ -46,6 +46,10 @@ take-more s i h = rw (add-one, take-suc s i 0)
 pub put-as : {o o₁ : List ℕ} {p q v w : ℕ} {a b : List ℕ} → v ≡ w → a ≡ b → Put o p v a q o₁ → Put o p w b q o₁
 put-as e f h = rw (← e, ← f) h
 
+-- the same, with the place written in another way
+pub put-at : {o o₁ : List ℕ} {p q r w : ℕ} {e : List ℕ} → p ≡ q → Put o p w e r o₁ → Put o q w e r o₁
+put-at h k = rw (← h) k
+
 pub all-append : (order : ByteOrder) (w : ℕ) (a b : List ℕ) → bytesOfAll order w (a ++ b) ≡ bytesOfAll order w a ++ bytesOfAll order w b
 unfolding bytesOfAll
 all-append order w [] b = refl

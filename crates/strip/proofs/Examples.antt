@@ -1,0 +1,49 @@
+-- Worked examples of document 01's group M, by computation. Those on packed fields stand in `flags`, the one on a float in `ui2d`.
+use mathlib.Core.Path.{_≡_, refl}
+use mathlib.Core.List.{List, [], _∷_, _++_}
+use Prim.Native.Nat.{ℕ}
+use lib.ListN.{replicate}
+use Rattle.core.specs.Bytes.{spelled, part, numberAt}
+use Rattle.core.specs.Taken.{start, advanced, stopIf, numberTaken, stringTaken, string24Taken, string8Taken, upToNul}
+use Rattle.core.specs.Checks.{lengthChecked, bodyChecked, sectionChecked, bodyStart, sectionStart, listChecked, parsedOf, unlessRefused}
+use Rattle.core.specs.declared.error.Refusal.the-variants.{UnexpectedEof}
+use Rattle.core.specs.declared.cursor.ByteOrder.the-variants.{Little}
+use Rattle.core.specs.declared.checks.Parsed.the-variants as Parseds
+use Rattle.unicode.specs.Utf8.{table, takes, rowOf, fits, sequenceBy, sequence, walk, wellFormed}
+use Rattle.ui2d.specs.Parts.{vector2Taken, vector3Taken}
+use Rattle.pane.specs.Pane.{paneTaken}
+use Rattle.pane.specs.Checks.{nameIll, textsChecked}
+use Rattle.pane.specs.Body.{paneRead, paneParsed}
+use Rattle.alignment.specs.Alignment.{alignmentTaken}
+use Rattle.strip.specs.Kinds.{letterBytes, kindOf}
+use Rattle.strip.specs.Whole.{Lists, lists}
+use Rattle.strip.specs.Read.{readStart, sizeBad, headerTaken, bodyTaken, finished, readBody, byKind, orRefused, refusedWith, endedWith, readAt, readSection}
+use Rattle.strip.specs.declared.kind.Kind.the-variants.{Ali1}
+use Rattle.strip.specs.declared.read.Section.the-variants as Sections
+
+abbrev pub zeros : ℕ → List ℕ
+zeros n = replicate n 0
+
+-- a body at 8, of a buffer of 8, 12, 13 and 37 zeros
+pub record Short : Type 0 where
+  pub eight : paneParsed Little (zeros 8) 8 .answer ≡ Parseds.Refused (UnexpectedEof 8 1)
+  pub twelve : paneParsed Little (zeros 12) 8 .answer ≡ Parseds.Refused (UnexpectedEof 12 24)
+  pub thirteen : paneParsed Little (zeros 13) 8 .answer ≡ Parseds.Refused (UnexpectedEof 13 8)
+  pub thirty-seven : paneParsed Little (zeros 37) 8 .answer ≡ Parseds.Refused (UnexpectedEof 37 4)
+
+pub short : Short
+unfolding start advanced paneParsed paneRead parsedOf unlessRefused bodyStart lengthChecked bodyChecked stopIf textsChecked paneTaken string24Taken string8Taken vector2Taken vector3Taken numberTaken stringTaken upToNul part numberAt spelled
+short = record { eight = refl; twelve = refl; thirteen = refl; thirty-seven = refl }
+
+abbrev pub full : Lists
+full = lists (zeros 2040) (zeros 32767) (zeros 510) (zeros 510)
+
+-- the three lines of the program's example
+pub record Lines : Type 0 where
+  pub empty : readSection Little [] 0 full .answer ≡ Sections.End
+  pub bare : readSection Little (letterBytes Ali1 ++ (8 ∷ 0 ∷ 0 ∷ 0 ∷ [])) 0 full .answer ≡ Sections.Refused (UnexpectedEof 8 1)
+  pub whole : readSection Little (letterBytes Ali1 ++ (96 ∷ 0 ∷ 0 ∷ 0 ∷ zeros 88)) 0 full .answer ≡ Sections.Pane 96 96
+
+pub three-lines : Lines
+unfolding start advanced letterBytes kindOf readSection readStart sectionStart lengthChecked sectionChecked listChecked stopIf orRefused readAt headerTaken sizeBad byKind readBody bodyTaken finished refusedWith endedWith paneTaken string24Taken string8Taken vector2Taken vector3Taken alignmentTaken numberTaken stringTaken upToNul part numberAt spelled textsChecked nameIll wellFormed walk
+three-lines = record { empty = refl; bare = refl; whole = refl }

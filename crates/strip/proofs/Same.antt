@@ -1,0 +1,61 @@
+-- Equality of records with their lists and labels: what is read back is equal to what was written, equal ones have equal sections, and two
+-- that are equal to a third are equal.
+use mathlib.Core.Path.{_≡_, refl, sym, ap, _∙_, subst}
+use mathlib.Core.List.{List, _++_}
+use Prim.Native.Nat.{ℕ, _+_}
+use lib.ListN.{replicate}
+use Rattle.core.specs.Bytes.{bytesOf, padding}
+use Rattle.core.specs.declared.cursor.ByteOrder.{ByteOrder}
+use Rattle.pane.proofs.Same as pane
+use Rattle.alignment.specs.Body as alignment
+use Rattle.strip.specs.Kinds.{letterBytes}
+use Rattle.strip.specs.Whole.{Lists, Whole, Same, SameOwn, readWhole}
+use Rattle.strip.specs.Write.{bodyLength, encodeBody, sectionSize, section}
+use Rattle.strip.specs.declared.kind.Kind.{Kind}
+use Rattle.strip.specs.declared.kind.Kind.the-variants.{Pan1, Ali1}
+use Rattle.strip.proofs.Back.{readRecord}
+
+read-own : (s : List ℕ) (l : Lists) (k : Kind) (w : Whole) → SameOwn k (readWhole s (readRecord k (w .pane)) l) w
+unfolding SameOwn readRecord
+read-own s l Pan1 w = tt
+read-own s l Ali1 w = refl
+
+-- what is read
+pub read-same : (s : List ℕ) (l : Lists) (w : Whole) → Same (readWhole s (readRecord (w .pane .kind) (w .pane)) l) w
+unfolding readRecord
+read-same s l w = record { kind = refl; base = pane.read-same (w .pane .base); own = read-own s l (w .pane .kind) w }
+
+own-both : (k : Kind) (x a b : Whole) → SameOwn k x a → SameOwn k x b → SameOwn k a b
+unfolding SameOwn
+own-both Pan1 x a b h i = tt
+own-both Ali1 x a b h i = sym h ∙ i
+
+pub same-both : (x a b : Whole) → Same x a → Same x b → Same a b
+same-both x a b h i = record {
+  kind = sym (h .kind) ∙ i .kind;
+  base = pane.same-both (x .pane .base) (a .pane .base) (b .pane .base) (h .base) (i .base);
+  own = subst (λ (k : Kind). SameOwn k a b) (h .kind) (own-both (x .pane .kind) x a b (h .own) (i .own));
+}
+
+-- equal ones have the same bytes
+body-same : (k : Kind) (order : ByteOrder) (body : ℕ) (a b : Whole) → Same a b → SameOwn k a b → encodeBody k order body a ≡ encodeBody k order body b
+unfolding SameOwn encodeBody alignment.encodeBody
+body-same Pan1 order body a b h i = pane.encode-same order (a .pane .base) (b .pane .base) (h .base)
+body-same Ali1 order body a b h i = rw (pane.encode-same order (a .pane .base) (b .pane .base) (h .base), i)
+
+length-same : (k : Kind) (body : ℕ) (a b : Whole) → SameOwn k a b → bodyLength k body a ≡ bodyLength k body b
+length-same Pan1 body a b i = refl
+length-same Ali1 body a b i = refl
+
+-- the section with the kind apart
+abbrev sectionWith : Kind → ByteOrder → ℕ → Whole → List ℕ
+sectionWith k order p w =
+    letterBytes k
+    ++ (bytesOf order 4 (sectionSize (bodyLength k (p + 8) w)) ++ (encodeBody k order (p + 8) w ++ replicate (padding (bodyLength k (p + 8) w)) 0))
+
+with-same : (k : Kind) (order : ByteOrder) (p : ℕ) (a b : Whole) → Same a b → SameOwn k a b → sectionWith k order p a ≡ sectionWith k order p b
+with-same k order p a b h i = rw (length-same k (p + 8) a b i, body-same k order (p + 8) a b h i)
+
+pub section-same : (order : ByteOrder) (p : ℕ) (a b : Whole) → Same a b → section order p a ≡ section order p b
+unfolding section
+section-same order p a b h = with-same (a .pane .kind) order p a b h (h .own) ∙ ap (λ (k : Kind). sectionWith k order p b) (h .kind)

@@ -1,0 +1,21 @@
+use borrow.Author.Tests.{eq-eqb, ne-eqb}
+use Rattle.strip.specs.Kinds.{kindOf}
+use Rattle.strip.proofs.kind.Kind.of_letters.Statement.{statement}
+use Rattle.strip.proofs.kind.Kind.of_letters.Tie as tie
+use Rattle.strip.proofs.kind.Kind.of_letters.Reads as reads
+use Rattle.strip.proofs.kind.Kind.of_letters.Lts as lts
+
+returns : tie.Need-returns
+unfolding kindOf
+returns c = simp (eq-eqb _ _ (c .if1 .taken))
+
+returns-2 : tie.Need-returns-2
+unfolding kindOf
+returns-2 c = simp (ne-eqb _ _ (c .before .if1 .left), eq-eqb _ _ (c .if2 .taken))
+
+returns-3 : tie.Need-returns-3
+unfolding kindOf
+returns-3 c = simp (ne-eqb _ _ (c .before .if1 .left), ne-eqb _ _ (c .if2 .left))
+
+pub of-letters-spec : {M : Type 1} → statement M
+of-letters-spec = tie.close (tie.spec returns returns-2 returns-3)

@@ -1,0 +1,58 @@
+use mathlib.Core.Path.{refl, sym, _∙_}
+use Rattle.strip.specs.Read.{listsAfter}
+use Rattle.strip.specs.Whole.{lists}
+use Rattle.strip.proofs.Cleared.{read-started}
+use Rattle.strip.proofs.Steps.{read-refused, read-end, read-on}
+use borrow.Author.Needs.{needs}
+use Rattle.strip.proofs.read.read_section.Statement.{statement}
+use Rattle.strip.proofs.read.read_section.Tie as tie
+use Rattle.strip.proofs.read.read_section.Reads as reads
+use Rattle.strip.proofs.read.read_section.Lts as lts
+use Rattle.strip.proofs.read.ended.Reads as ended-reads
+use Rattle.strip.proofs.read.read_at.Reads as read-at-reads
+use Rattle.strip.proofs.read.read_start.Reads as read-start-reads
+use Rattle.strip.proofs.read.refused.Reads as refused-reads
+
+read-start-requires : tie.Need-read-start-requires
+read-start-requires c κs = search needs
+
+enum-known-p : tie.Need-enum-known-p
+enum-known-p c = search needs
+
+refused-requires : tie.Need-refused-requires
+refused-requires c κs = search needs
+
+enum-told : tie.Need-enum-told
+enum-told c = search needs
+
+ended-requires : tie.Need-ended-requires
+ended-requires c κs = search needs
+
+read-at-requires : tie.Need-read-at-requires
+read-at-requires c κs = let a = read-started _ _ _ _ _ _ _ (sym (c .before .before .before .read-start .ensures) ∙ c .before .enum-told .given .1) in (a .within, a .most)
+
+returns : tie.Need-returns
+unfolding listsAfter
+returns c = (c .refused .ensures ∙ read-refused _ _ _ (lists _ _ _ _) _ (c .before .before .before .before .read-start .ensures) _ (c .before .before .p .given .1), refl)
+
+returns-2 : tie.Need-returns-2
+unfolding listsAfter
+returns-2 c = (c .ended .ensures ∙ read-end _ _ _ (lists _ _ _ _) _ (c .before .before .before .before .read-start .ensures) _ (c .before .before .enum-told .given .1) (c .before .if1 .taken), refl)
+
+returns-3 : tie.Need-returns-3
+unfolding listsAfter
+returns-3 c = (c .read-at .ensures ∙ read-on _ _ _ (lists _ _ _ _) _ (c .before .before .before .before .read-start .ensures) _ (c .before .before .enum-told .given .1) (c .before .if1 .left), refl)
+
+pub read-section-spec : {M : Type 1} → statement M
+read-section-spec =
+    tie.close
+    (tie.spec
+    read-start-requires
+    enum-known-p
+    refused-requires
+    enum-told
+    ended-requires
+    read-at-requires
+    returns
+    returns-2
+    returns-3)

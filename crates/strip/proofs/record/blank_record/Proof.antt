@@ -1,0 +1,21 @@
+use Rattle.strip.specs.Whole.{blankRecord}
+use borrow.Author.Needs.{needs}
+use Rattle.strip.proofs.record.blank_record.Statement.{statement}
+use Rattle.strip.proofs.record.blank_record.Tie as tie
+use Rattle.strip.proofs.record.blank_record.Reads as reads
+use Rattle.strip.proofs.record.blank_record.Lts as lts
+use Rattle.alignment.proofs.blank_alignment.Reads as blank-alignment-reads
+use Rattle.pane.proofs.blank_pane.Reads as blank-pane-reads
+
+blank-pane-requires : tie.Need-blank-pane-requires
+blank-pane-requires c κs = search needs
+
+blank-alignment-requires : tie.Need-blank-alignment-requires
+blank-alignment-requires c κs = search needs
+
+returns : tie.Need-returns
+unfolding blankRecord
+returns c = rw (c .blank-alignment .ensures, c .before .blank-pane .ensures)
+
+pub blank-record-spec : {M : Type 1} → statement M
+blank-record-spec = tie.close (tie.spec blank-pane-requires blank-alignment-requires returns)

@@ -1,0 +1,50 @@
+use mathlib.Core.Path.{sym, _∙_}
+use Rattle.core.proofs.Checked.{wrote, not-wrote}
+use Rattle.pane.proofs.Cleared.{sound}
+use Rattle.strip.specs.Whole.{whole}
+use Rattle.strip.specs.Write.{writeAnswer, writeOutput}
+use Rattle.strip.proofs.Cleared.{write-cleared}
+use borrow.Author.Needs.{needs}
+use Rattle.strip.proofs.write.write_section.Statement.{statement}
+use Rattle.strip.proofs.write.write_section.Tie as tie
+use Rattle.strip.proofs.write.write_section.Reads as reads
+use Rattle.strip.proofs.write.write_section.Lts as lts
+use Rattle.strip.proofs.write.put_section.Reads as put-section-reads
+use Rattle.strip.proofs.write.write_checked.Reads as write-checked-reads
+
+write-checked-requires : tie.Need-write-checked-requires
+write-checked-requires c κs = search needs
+
+enum-known-p : tie.Need-enum-known-p
+enum-known-p c = search needs
+
+enum-told : tie.Need-enum-told
+enum-told c = search needs
+
+put-section-requires : tie.Need-put-section-requires
+put-section-requires c κs =
+    let a = write-cleared (whole _ _ _ _ _ _) _ _ _ (sym (c .before .before .before .write-checked .ensures) ∙ c .before .enum-told .given .1) in
+    (sound _ (a .good), a .fits)
+
+returns : tie.Need-returns
+unfolding writeAnswer writeOutput
+returns c = not-wrote _ _ _ _ _ (sym (c .before .before .before .write-checked .ensures) ∙ c .before .p .given .1)
+
+same-length : tie.Need-same-length
+same-length c = search needs
+
+returns-2 : tie.Need-returns-2
+unfolding writeAnswer writeOutput
+returns-2 c = wrote _ _ (sym (c .before .before .before .before .before .before .write-checked .ensures) ∙ c .before .before .before .before .enum-told .given .1) (c .before .before .put-section .ensures)
+
+pub write-section-spec : {M : Type 1} → statement M
+write-section-spec =
+    tie.close
+    (tie.spec
+    write-checked-requires
+    enum-known-p
+    enum-told
+    put-section-requires
+    returns
+    same-length
+    returns-2)

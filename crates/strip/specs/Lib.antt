@@ -1,0 +1,6 @@
+pub mod Kinds
+pub mod Whole
+pub mod Typed
+pub mod Read
+pub mod Write
+pub mod Strip

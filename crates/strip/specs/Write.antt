@@ -1,0 +1,54 @@
+-- A section write: what it answers, and the output after it.
+use Prim.Native.Nat.{ℕ, _+_, _<_}
+use mathlib.Core.List.{List, [], _∷_, _++_}
+use lib.ListN.{length, replicate}
+use Rattle.core.specs.Bytes.{bytesOf, padding, splice}
+use Rattle.core.specs.Checks.{sectionStart, endChecked, unlessRefused, writtenOf}
+use Rattle.core.specs.declared.cursor.ByteOrder.{ByteOrder}
+use Rattle.core.specs.declared.cursor.Place.{Place}
+use Rattle.core.specs.declared.checks.Written.{Written}
+use Rattle.pane.specs.Pane.{encodePane}
+use Rattle.pane.specs.Checks.{namesChecked, reserveChecked}
+use Rattle.alignment.specs.Body as alignment
+use Rattle.strip.specs.Kinds.{letterBytes, lengthOf}
+use Rattle.strip.specs.Whole.{Whole}
+use Rattle.strip.specs.declared.kind.Kind.{Kind}
+use Rattle.strip.specs.declared.kind.Kind.the-variants.{Pan1, Ali1}
+
+-- how many bytes the body of w has at B, and these bytes: the base and what its kind adds (of the two kinds none aligns by the place)
+abbrev pub bodyLength : Kind → ℕ → Whole → ℕ
+bodyLength Pan1 body w = 76
+bodyLength Ali1 body w = 88
+
+unfoldable pub encodeBody : Kind → ByteOrder → ℕ → Whole → List ℕ
+encodeBody Pan1 order body w = encodePane order (w .pane .base)
+encodeBody Ali1 order body w = alignment.encodeBody order (w .pane .base) (w .pane .alignment)
+
+-- header, body of n bytes, and zeros to a multiple of 4
+unfoldable pub sectionSize : ℕ → ℕ
+sectionSize n = 8 + n + padding n
+
+abbrev pub sizeOf : ℕ → Whole → ℕ
+sizeOf p w = sectionSize (bodyLength (w .pane .kind) (p + 8) w)
+
+-- the section of w at p: four letters, the size, the body, zeros to a multiple of 4
+unfoldable pub section : ByteOrder → ℕ → Whole → List ℕ
+section order p w =
+    letterBytes (w .pane .kind)
+    ++ (bytesOf order 4 (sizeOf p w)
+    ++ (encodeBody (w .pane .kind) order (p + 8) w ++ replicate (padding (bodyLength (w .pane .kind) (p + 8) w)) 0))
+
+-- the end of its padding
+abbrev pub sectionEnd : ℕ → Whole → ℕ
+sectionEnd p w = p + sizeOf p w
+
+-- 1, 2, 9, 10 and 16 of a write into n bytes
+unfoldable pub writeChecked : Whole → ℕ → ℕ → Place
+writeChecked w n p = endChecked (reserveChecked (namesChecked (sectionStart n p) (w .pane .base)) (w .pane .base)) (sectionEnd p w) n
+
+-- THE SECTION WRITE of w at p of an output o of n bytes: its answer, and the output after it
+unfoldable pub writeAnswer : Whole → ℕ → ℕ → Written
+writeAnswer w n p = writtenOf (writeChecked w n p) (sectionEnd p w)
+
+unfoldable pub writeOutput : ByteOrder → Whole → List ℕ → ℕ → List ℕ
+writeOutput order w o p = unlessRefused (writeChecked w (length o) p) o (splice o p (section order p w))

@@ -1,0 +1,54 @@
+// The kinds of panes: letters, fixed length, lookup from letters.
+ghost use mathlib.Core.Path.{_≡_};
+ghost use Prim.Native.Nat.{_≤_};
+ghost use Rattle.strip.specs.Kinds.{lettersOf, lengthOf, kindOf};
+
+pub enum Kind {
+    Pan1,
+    Ali1,
+}
+
+pub enum KindFound {
+    Is(Kind),
+    Other,
+}
+
+impl Kind {
+    // The letters as the number that they spell, the lowest byte first.
+    pub const PAN1: u32 = 0x316E6170;
+
+    pub const ALI1: u32 = 0x31696C61;
+
+    // The letters.
+    pub fn letters(self) -> u32
+        ensures { λ r. ⌜ r ≡ lettersOf self ⌝ }
+    {
+        match self {
+            Kind::Pan1 => Kind::PAN1,
+            Kind::Ali1 => Kind::ALI1,
+        }
+    }
+
+    // How many bytes every body of the kind has at least.
+    pub fn fixed_length(self) -> usize
+        ensures { λ r. ⌜ r ≡ lengthOf self ⌝ }
+    {
+        match self {
+            Kind::Pan1 => 76,
+            Kind::Ali1 => 88,
+        }
+    }
+
+    // The kind that has these letters, if one has.
+    pub fn of_letters(n: u32) -> KindFound
+        ensures { λ r. ⌜ r ≡ kindOf n ⌝ }
+    {
+        if n == Kind::PAN1 {
+            return KindFound::Is(Kind::Pan1);
+        }
+        if n == Kind::ALI1 {
+            return KindFound::Is(Kind::Ali1);
+        }
+        KindFound::Other
+    }
+}

@@ -1,0 +1,144 @@
+// The section write.
+use crate::kind::Kind;
+use crate::record::Record;
+use core::checks;
+use core::checks::Written;
+use core::cursor::ByteOrder;
+use core::cursor::Place;
+use core::writer;
+use pane::checks::names_checked;
+use pane::checks::reserve_checked;
+ghost use mathlib.Core.Path.{_≡_};
+ghost use Prim.Native.Nat.{_+_, _^_, _≤_, _<_};
+ghost use lib.ListN.{length};
+ghost use Rattle.core.specs.Bytes.{Room, Put};
+ghost use Rattle.pane.specs.Pane.{Sound};
+ghost use Rattle.strip.specs.Whole.{whole};
+ghost use Rattle.strip.specs.Write.{bodyLength, encodeBody, sectionSize, sizeOf, section, writeChecked, writeAnswer, writeOutput};
+
+// Header, body and padding of a body of n bytes.
+fn section_size(n: usize) -> usize
+    requires { ⌜ n < 2 ^ 31 ⌝ }
+    ensures { λ r. ⌜ r ≡ sectionSize n ⌝ }
+{
+    8 + n + writer::padding_at(n)
+}
+
+// How many bytes the body has.
+fn body_length(
+    r: Record,
+    quads: &[u32],
+    units: &[u16],
+    lines: &[u32],
+    frames: &[u16],
+    label: &[u8],
+    body: usize,
+) -> usize
+    ensures { λ n. ⌜ (n ≡ bodyLength (r .kind) body (whole r (now (quads .entry)) (now (units .entry)) (now (lines .entry)) (now (frames .entry)) (now (label .entry)))) × (n < 2 ^ 31) ⌝ }
+{
+    let kind = r.kind;
+    match kind {
+        Kind::Pan1 => 76,
+        Kind::Ali1 => 88,
+    }
+}
+
+// 1, 2, 9, 10 and 16
+fn write_checked(
+    r: Record,
+    quads: &[u32],
+    units: &[u16],
+    lines: &[u32],
+    frames: &[u16],
+    label: &[u8],
+    length: usize,
+    place: usize,
+) -> Place
+    ensures { λ a. ⌜ a ≡ writeChecked (whole r (now (quads .entry)) (now (units .entry)) (now (lines .entry)) (now (frames .entry)) (now (label .entry))) length place ⌝ }
+{
+    let base = r.base;
+    let p = checks::section_start(length, place);
+    let p = names_checked(p, base);
+    let p = reserve_checked(p, base);
+    match p {
+        Place::Refused(why) => Place::Refused(why),
+        Place::At(c) => {
+            let n = body_length(r, quads, units, lines, frames, label, place + 8);
+            let size = section_size(n);
+            checks::end_checked(Place::At(c), place, size, length)
+        }
+    }
+}
+
+fn put_body(
+    order: ByteOrder,
+    r: Record,
+    quads: &[u32],
+    units: &[u16],
+    lines: &[u32],
+    frames: &[u16],
+    label: &[u8],
+    out: &mut [u8],
+    p: usize,
+) -> usize
+    requires { ⌜ Sound (r .base) × Room (now out) p (bodyLength (r .kind) p (whole r (now quads) (now units) (now lines) (now frames) (now label))) ⌝ }
+    ensures { λ q. ⌜ Put (now (out .entry)) p (bodyLength (r .kind) p (whole r (now (quads .entry)) (now (units .entry)) (now (lines .entry)) (now (frames .entry)) (now (label .entry)))) (encodeBody (r .kind) order p (whole r (now (quads .entry)) (now (units .entry)) (now (lines .entry)) (now (frames .entry)) (now (label .entry)))) q (now (out .exit)) ⌝ }
+{
+    let kind = r.kind;
+    match kind {
+        Kind::Pan1 => pane::put_pane(order, out, p, r.base),
+        Kind::Ali1 => alignment::body::put_body(order, out, p, r.base, r.alignment),
+    }
+}
+
+fn put_section(
+    order: ByteOrder,
+    r: Record,
+    quads: &[u32],
+    units: &[u16],
+    lines: &[u32],
+    frames: &[u16],
+    label: &[u8],
+    out: &mut [u8],
+    p: usize,
+) -> usize
+    requires { ⌜ Sound (r .base) × Room (now out) p (sizeOf p (whole r (now quads) (now units) (now lines) (now frames) (now label))) ⌝ }
+    ensures { λ q. ⌜ Put (now (out .entry)) p (sizeOf p (whole r (now (quads .entry)) (now (units .entry)) (now (lines .entry)) (now (frames .entry)) (now (label .entry)))) (section order p (whole r (now (quads .entry)) (now (units .entry)) (now (lines .entry)) (now (frames .entry)) (now (label .entry)))) q (now (out .exit)) ⌝ }
+{
+    let kind = r.kind;
+    let letters = kind.letters();
+    let body = p + 8;
+    let n = body_length(r, quads, units, lines, frames, label, body);
+    let size = section_size(n);
+    let zeros = writer::padding_at(n);
+    let q = writer::put_u32(ByteOrder::Little, out, p, letters);
+    writer::put_u32(order, out, q, size as u32);
+    let q = put_body(order, r, quads, units, lines, frames, label, out, body);
+    writer::put_zeros(out, q, zeros)
+}
+
+// The section at a place: checks 1, 2, 9, 10, 16. A refusal leaves the output as it was; an accepted write answers its end, and changes no byte but its own.
+// The lists and the label of a kind that lacks them are not looked at.
+pub fn write_section(
+    order: ByteOrder,
+    r: Record,
+    quads: &[u32],
+    units: &[u16],
+    lines: &[u32],
+    frames: &[u16],
+    label: &[u8],
+    out: &mut [u8],
+    place: usize,
+) -> Written
+    ensures { λ a. ⌜ a ≡ writeAnswer (whole r (now (quads .entry)) (now (units .entry)) (now (lines .entry)) (now (frames .entry)) (now (label .entry))) (length (now (out .entry))) place ⌝ }
+    ensures { λ _. ⌜ now (out .exit) ≡ writeOutput order (whole r (now (quads .entry)) (now (units .entry)) (now (lines .entry)) (now (frames .entry)) (now (label .entry))) (now (out .entry)) place ⌝ }
+{
+    let p = write_checked(r, quads, units, lines, frames, label, out.len(), place);
+    match p {
+        Place::Refused(why) => Written::Refused(why),
+        Place::At(_) => {
+            let end = put_section(order, r, quads, units, lines, frames, label, out, place);
+            Written::End(end)
+        }
+    }
+}

@@ -1,0 +1,67 @@
+use mathlib.Core.Path.{_≡_}
+use lib.ListN.{length}
+use borrow.Author.Needs.{needs}
+use Rattle.hexadecimal.proofs.all.Statement.{statement}
+use Rattle.hexadecimal.proofs.all.Tie as tie
+use Rattle.hexadecimal.proofs.all.Reads as reads
+use Rattle.hexadecimal.proofs.all.Lts as lts
+use Rattle.hexadecimal.proofs.blank_line.Reads as blank-line-reads
+use Rattle.hexadecimal.proofs.ended.Reads as ended-reads
+use Rattle.hexadecimal.proofs.read_some.Reads as read-some-reads
+
+abbrev Inv-loop : tie.InvT-loop
+Inv-loop bytes₀ turns₀ m₀ bytes turns m = length bytes ≡ length bytes₀
+
+abbrev μ-loop : tie.MeasureT-loop
+μ-loop bytes₀ turns₀ m₀ bytes turns m = turns
+
+blank-line-requires : tie.Need-blank-line-requires Inv-loop μ-loop
+blank-line-requires c κs = search needs
+
+loop-holds : tie.Need-loop-holds Inv-loop μ-loop
+loop-holds c = search needs
+
+read-some-requires : tie.Need-read-some-requires Inv-loop μ-loop
+read-some-requires c κs = search needs
+
+sub-turns : tie.Need-sub-turns Inv-loop μ-loop
+sub-turns c = search needs
+
+loop-less : tie.Need-loop-less Inv-loop μ-loop
+loop-less c = search needs
+
+loop-again : tie.Need-loop-again Inv-loop μ-loop
+loop-again c = search needs
+
+ended-requires : tie.Need-ended-requires Inv-loop μ-loop
+ended-requires c κs = search needs
+
+same-length : tie.Need-same-length Inv-loop μ-loop
+same-length c = search needs
+
+returns : tie.Need-returns Inv-loop μ-loop
+returns c = search needs
+
+same-length-2 : tie.Need-same-length-2 Inv-loop μ-loop
+same-length-2 c = search needs
+
+returns-2 : tie.Need-returns-2 Inv-loop μ-loop
+returns-2 c = search needs
+
+pub all-spec : {M : Type 1} → statement M
+all-spec =
+    tie.close
+    (tie.spec
+    Inv-loop
+    μ-loop
+    blank-line-requires
+    loop-holds
+    read-some-requires
+    sub-turns
+    loop-less
+    loop-again
+    ended-requires
+    same-length
+    returns
+    same-length-2
+    returns-2)

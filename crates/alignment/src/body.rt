@@ -35,7 +35,7 @@ fn refused(why: Refusal) -> AlignmentParsed
 }
 
 // The reads, and check 7.
-fn read(order: ByteOrder, data: &[u8], p: Place, place: usize) -> AlignmentParsed
+pub fn read(order: ByteOrder, data: &[u8], p: Place, place: usize) -> AlignmentParsed
     requires { ⌜ place < 2 ^ 32 ⌝ }
     ensures { λ r. ⌜ r ≡ alignmentRead order (now («data» .entry)) p place ⌝ }
 {

@@ -60,7 +60,7 @@ number-back {s} c order w v h a =
     )
 
 -- a list of numbers that fit w bytes each
-pub Fit : ℕ → List ℕ → Type 0
+unfoldable pub Fit : ℕ → List ℕ → Type 0
 Fit w [] = Unit {0}
 Fit w (v ∷ vs) = (v < 256 ^ w) × Fit w vs
 

@@ -31,7 +31,7 @@ fn refused(why: Refusal) -> PaneParsed
 }
 
 // The reads, and check 7.
-fn read(order: ByteOrder, data: &[u8], p: Place, place: usize) -> PaneParsed
+pub fn read(order: ByteOrder, data: &[u8], p: Place, place: usize) -> PaneParsed
     requires { ⌜ place < 2 ^ 32 ⌝ }
     ensures { λ r. ⌜ r ≡ paneRead order (now («data» .entry)) p place ⌝ }
 {

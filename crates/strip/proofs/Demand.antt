@@ -27,8 +27,10 @@ use Rattle.strip.specs.declared.read.SectionRead.{SectionRead}
 use Rattle.strip.specs.declared.read.Section.{Section}
 use Rattle.strip.specs.declared.read.Section.the-variants as Sections
 use Rattle.strip.proofs.Cleared.{Accepts, write-cleared}
-use Rattle.strip.proofs.Same.{read-same, section-same, same-both}
-use Rattle.strip.proofs.Back.{GoodWhole, endOf, length-section, size-whole, size-shift, section-shift, section-back, section-end}
+use Rattle.strip.proofs.Same.{section-same, same-both}
+use Rattle.strip.proofs.BackKinds.{GoodWhole, readRecord}
+use Rattle.pane.proofs.Same as pane
+use Rattle.strip.proofs.Back.{SectionBack, length-section, size-whole, size-shift, section-shift, section-back, section-end}
 
 -- ---- what an accepted write and a refused one say
 
@@ -80,6 +82,12 @@ take-splice o p xs h =
     rw (splice-cut o p xs h)
     (take-at (take p o ++ xs) (drop (p + length xs) o) (p + length xs) (simp (length-append, length-take) (omega arith)))
 
+-- what is read of a section is equal to what was written
+section-is : {order : ByteOrder} {s : List ℕ} {p : ℕ} {l : Lists} {w : Whole} → SectionBack order s p l w
+    → Same (readWhole s (readRecord (w .pane .kind) w) (listsAfter order s p l)) w
+unfolding readRecord
+section-is {w = w} e = record { kind = refl; base = pane.read-same (w .pane .base); own = e .own }
+
 -- ---- the strip is the sections of what was kept
 
 module _ (order : ByteOrder) where
@@ -106,10 +114,10 @@ module _ (order : ByteOrder) where
   grown-step w t ws ih o p h (Writtens.End e) k =
       let y = accepted order w o p e k in
       let a = y .accepts in
-      let g : GoodWhole w = record { typed = t; good = a .good } in
+      let g : GoodWhole w = record { typed = t; good = a .good; own = a .own } in
       let v : section order p w ≡ section order 0 w = section-shift order p w (a .place .whole) in
       let z : sizeOf p w ≡ sizeOf 0 w = size-shift p w (a .place .whole) in
-      let l : length (section order p w) ≡ sizeOf p w = length-section order p w (a .good) in
+      let l : length (section order p w) ≡ sizeOf p w = length-section order p w g in
       let f : p + length (section order p w) ≤ length o = rw l (a .fits) in
       let o′ = writeOutput order w o p in
       let n : length o′ ≡ length o = rw (y .laid) (length-splice o p (section order p w)) in
@@ -137,7 +145,7 @@ module _ (order : ByteOrder) where
   unfolding Gives sections endsFrom All endedWith
   gives [] g b h k = λ l full. rw (append-nil b, section-end order b (rw (append-nil b) at k) h l full)
   gives (w ∷ ws) g b h k =
-      let l : length (section order 0 w) ≡ sizeOf 0 w = length-section order 0 w (g .0 .good) in
+      let l : length (section order 0 w) ≡ sizeOf 0 w = length-section order 0 w (g .0) in
       let z : sizeOf 0 w % 4 ≡ 0 = size-whole _ in
       let n : length (b ++ section order 0 w) ≡ length b + sizeOf 0 w = rw (length-append, l) in
       let ih = gives ws (g .1) (b ++ section order 0 w) (omega (arith, n, z, h)) (rw append-assoc k) in
@@ -148,9 +156,9 @@ module _ (order : ByteOrder) where
         λ r full.
             let e = section-back order (length b) w (g .0) k h x r full in
             record {
-              end = endOf (length b) w;
-              answer = ap (λ (y : SectionRead). y .answer) e ∙ ap (λ (y : ℕ). Sections.Pane (endOf (length b) w) (length b + y)) q;
-              same = rw (ap (λ (y : SectionRead). y .«record») e) (read-same s (listsAfter order s (length b) r) w);
+              end = e .end;
+              answer = ap (λ (y : SectionRead). y .answer) (e .read) ∙ ap (λ (y : ℕ). Sections.Pane (e .end) (length b + y)) q;
+              same = rw (ap (λ (y : SectionRead). y .«record») (e .read)) (section-is e);
             },
         rw (append-assoc, n) at ih,
       )

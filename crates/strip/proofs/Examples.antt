@@ -15,9 +15,10 @@ use Rattle.pane.specs.Pane.{paneTaken}
 use Rattle.pane.specs.Checks.{nameIll, textsChecked}
 use Rattle.pane.specs.Body.{paneRead, paneParsed}
 use Rattle.alignment.specs.Alignment.{alignmentTaken}
+use Rattle.alignment.specs.Body.{alignmentRead}
 use Rattle.strip.specs.Kinds.{letterBytes, kindOf}
 use Rattle.strip.specs.Whole.{Lists, lists}
-use Rattle.strip.specs.Read.{readStart, sizeBad, headerTaken, bodyTaken, finished, readBody, byKind, orRefused, refusedWith, endedWith, readAt, readSection}
+use Rattle.strip.specs.Read.{readStart, sizeBad, headerTaken, bodyRead, finished, readBody, byKind, orRefused, refusedWith, endedWith, readAt, readSection}
 use Rattle.strip.specs.declared.kind.Kind.the-variants.{Ali1}
 use Rattle.strip.specs.declared.read.Section.the-variants as Sections
 
@@ -45,5 +46,5 @@ pub record Lines : Type 0 where
   pub whole : readSection Little (letterBytes Ali1 ++ (96 ∷ 0 ∷ 0 ∷ 0 ∷ zeros 88)) 0 full .answer ≡ Sections.Pane 96 96
 
 pub three-lines : Lines
-unfolding start advanced letterBytes kindOf readSection readStart sectionStart lengthChecked sectionChecked listChecked stopIf orRefused readAt headerTaken sizeBad byKind readBody bodyTaken finished refusedWith endedWith paneTaken string24Taken string8Taken vector2Taken vector3Taken alignmentTaken numberTaken stringTaken upToNul part numberAt spelled textsChecked nameIll wellFormed walk
+unfolding start advanced letterBytes kindOf readSection readStart sectionStart lengthChecked sectionChecked listChecked stopIf orRefused readAt headerTaken sizeBad byKind readBody bodyRead alignmentRead parsedOf unlessRefused finished refusedWith endedWith paneTaken string24Taken string8Taken vector2Taken vector3Taken alignmentTaken numberTaken stringTaken upToNul part numberAt spelled textsChecked nameIll wellFormed walk
 three-lines = record { empty = refl; bare = refl; whole = refl }

@@ -1,5 +1,4 @@
--- Equality of records with their lists and labels: what is read back is equal to what was written, equal ones have equal sections, and two
--- that are equal to a third are equal.
+-- Equality of records with their lists and labels: equal ones have equal sections, and two that are equal to a third are equal.
 use mathlib.Core.Path.{_≡_, refl, sym, ap, _∙_, subst}
 use mathlib.Core.List.{List, _++_}
 use Prim.Native.Nat.{ℕ, _+_}
@@ -7,27 +6,22 @@ use lib.ListN.{replicate}
 use Rattle.core.specs.Bytes.{bytesOf, padding}
 use Rattle.core.specs.declared.cursor.ByteOrder.{ByteOrder}
 use Rattle.pane.proofs.Same as pane
+use Rattle.picture.specs.Body as picture-body
+use Rattle.picture.proofs.Same as picture
+use Rattle.window.specs.Body as window-body
+use Rattle.window.proofs.Same as window
 use Rattle.alignment.specs.Body as alignment
 use Rattle.strip.specs.Kinds.{letterBytes}
-use Rattle.strip.specs.Whole.{Lists, Whole, Same, SameOwn, readWhole}
+use Rattle.strip.specs.Whole.{Whole, Same, SameOwn}
 use Rattle.strip.specs.Write.{bodyLength, encodeBody, sectionSize, section}
 use Rattle.strip.specs.declared.kind.Kind.{Kind}
-use Rattle.strip.specs.declared.kind.Kind.the-variants.{Pan1, Ali1}
-use Rattle.strip.proofs.Back.{readRecord}
-
-read-own : (s : List ℕ) (l : Lists) (k : Kind) (w : Whole) → SameOwn k (readWhole s (readRecord k (w .pane)) l) w
-unfolding SameOwn readRecord
-read-own s l Pan1 w = tt
-read-own s l Ali1 w = refl
-
--- what is read
-pub read-same : (s : List ℕ) (l : Lists) (w : Whole) → Same (readWhole s (readRecord (w .pane .kind) (w .pane)) l) w
-unfolding readRecord
-read-same s l w = record { kind = refl; base = pane.read-same (w .pane .base); own = read-own s l (w .pane .kind) w }
+use Rattle.strip.specs.declared.kind.Kind.the-variants.{Pan1, Pic1, Wnd1, Ali1}
 
 own-both : (k : Kind) (x a b : Whole) → SameOwn k x a → SameOwn k x b → SameOwn k a b
 unfolding SameOwn
 own-both Pan1 x a b h i = tt
+own-both Pic1 x a b h i = picture.same-both _ _ _ _ _ _ h i
+own-both Wnd1 x a b h i = window.same-both _ _ _ _ _ _ _ _ _ h i
 own-both Ali1 x a b h i = sym h ∙ i
 
 pub same-both : (x a b : Whole) → Same x a → Same x b → Same a b
@@ -39,12 +33,17 @@ same-both x a b h i = record {
 
 -- equal ones have the same bytes
 body-same : (k : Kind) (order : ByteOrder) (body : ℕ) (a b : Whole) → Same a b → SameOwn k a b → encodeBody k order body a ≡ encodeBody k order body b
-unfolding SameOwn encodeBody alignment.encodeBody
+unfolding SameOwn encodeBody picture-body.encodeBody window-body.encodeBody alignment.encodeBody
 body-same Pan1 order body a b h i = pane.encode-same order (a .pane .base) (b .pane .base) (h .base)
+body-same Pic1 order body a b h i = rw (pane.encode-same order (a .pane .base) (b .pane .base) (h .base), picture.encode-same _ _ _ _ i order)
+body-same Wnd1 order body a b h i = rw (pane.encode-same order (a .pane .base) (b .pane .base) (h .base), window.encode-same _ _ _ _ _ _ i order body)
 body-same Ali1 order body a b h i = rw (pane.encode-same order (a .pane .base) (b .pane .base) (h .base), i)
 
 length-same : (k : Kind) (body : ℕ) (a b : Whole) → SameOwn k a b → bodyLength k body a ≡ bodyLength k body b
+unfolding SameOwn picture-body.bodyLength window-body.bodyLength
 length-same Pan1 body a b i = refl
+length-same Pic1 body a b i = rw (picture.length-same _ _ _ _ i)
+length-same Wnd1 body a b i = rw (window.length-same _ _ _ _ _ _ i body)
 length-same Ali1 body a b i = refl
 
 -- the section with the kind apart

@@ -5,7 +5,7 @@ use mathlib.Core.List.{List}
 use lib.ListN.{length}
 use lib.Dec.{ltb, eqb}
 use Rattle.core.specs.Taken.{start, stopIf, u32Taken}
-use Rattle.core.specs.Checks.{sectionStart, listChecked}
+use Rattle.core.specs.Checks.{sectionStart, listChecked, unlessRefused}
 use Rattle.core.specs.declared.error.Refusal.{Refusal}
 use Rattle.core.specs.declared.error.Refusal.the-variants.{SectionSize}
 use Rattle.core.specs.declared.cursor.ByteOrder.{ByteOrder}
@@ -13,20 +13,28 @@ use Rattle.core.specs.declared.cursor.ByteOrder.the-variants.{Little}
 use Rattle.core.specs.declared.cursor.Place.{Place}
 use Rattle.core.specs.declared.cursor.Place.the-variants as Places
 use Rattle.core.specs.declared.cursor.U32Taken.{U32Taken}
-use Rattle.pane.specs.Pane.{paneTaken}
-use Rattle.pane.specs.Checks.{textsChecked}
-use Rattle.pane.specs.declared.PaneTaken.{PaneTaken}
-use Rattle.alignment.specs.Alignment.{alignmentTaken, blankAlignment}
-use Rattle.alignment.specs.declared.AlignmentTaken.{AlignmentTaken}
+use Rattle.core.specs.declared.checks.Parsed.{Parsed}
+use Rattle.core.specs.declared.checks.Parsed.the-variants as Parseds
+use Rattle.pane.specs.Body.{paneRead}
+use Rattle.pane.specs.declared.body.PaneParsed.{PaneParsed}
+use Rattle.picture.specs.Picture.{blankPicture}
+use Rattle.picture.specs.Body.{pictureRead, quadsRead}
+use Rattle.picture.specs.declared.body.PictureParsed.{PictureParsed}
+use Rattle.window.specs.Window.{blankWindow}
+use Rattle.window.specs.Body.{windowRead, readQuads, readFrames}
+use Rattle.window.specs.declared.body.WindowParsed.{WindowParsed}
+use Rattle.alignment.specs.Alignment.{blankAlignment}
+use Rattle.alignment.specs.Body.{alignmentRead}
+use Rattle.alignment.specs.declared.body.AlignmentParsed.{AlignmentParsed}
 use Rattle.strip.specs.Kinds.{kindOf}
-use Rattle.strip.specs.Whole.{Lists, blankRecord}
+use Rattle.strip.specs.Whole.{Lists, lists, blankRecord}
 use Rattle.strip.specs.declared.kind.Kind.{Kind}
-use Rattle.strip.specs.declared.kind.Kind.the-variants.{Pan1, Ali1}
+use Rattle.strip.specs.declared.kind.Kind.the-variants.{Pan1, Pic1, Wnd1, Ali1}
 use Rattle.strip.specs.declared.kind.KindFound.{KindFound}
 use Rattle.strip.specs.declared.kind.KindFound.the-variants.{Is, Other}
 use Rattle.strip.specs.declared.record.Record.{Record}
 use Rattle.strip.specs.declared.read.Header.{Header}
-use Rattle.strip.specs.declared.read.BodyTaken.{BodyTaken}
+use Rattle.strip.specs.declared.read.BodyRead.{BodyRead}
 use Rattle.strip.specs.declared.read.SectionRead.{SectionRead}
 use Rattle.strip.specs.declared.read.Section.the-variants as Sections
 
@@ -50,15 +58,27 @@ headerTaken order s p =
       then = stopIf (size .then) (sizeBad (length s) p (size .value)) (SectionSize (p + 4) (size .value));
     }
 
--- the body of a kind
-unfoldable pub bodyTaken : ByteOrder → Kind → List ℕ → Place → BodyTaken
-bodyTaken order Pan1 s p =
-    let b : PaneTaken = paneTaken order s p in
-    record { «record» = record { kind = Pan1; base = b .pane; alignment = blankAlignment }; then = b .then }
-bodyTaken order Ali1 s p =
-    let b : PaneTaken = paneTaken order s p in
-    let a : AlignmentTaken = alignmentTaken order s (b .then) in
-    record { «record» = record { kind = Ali1; base = b .pane; alignment = a .alignment }; then = a .then }
+-- the body of a kind at B, read as its body call reads it; what the other kinds have is blank
+unfoldable pub bodyRead : ByteOrder → Kind → List ℕ → Place → ℕ → BodyRead
+bodyRead order Pan1 s p body =
+    let r : PaneParsed = paneRead order s p body in
+    record { answer = r .answer; «record» = record { kind = Pan1; base = r .pane; picture = blankPicture; window = blankWindow; alignment = blankAlignment } }
+bodyRead order Pic1 s p body =
+    let r : PictureParsed = pictureRead order s p body in
+    record { answer = r .answer; «record» = record { kind = Pic1; base = r .base; picture = r .picture; window = blankWindow; alignment = blankAlignment } }
+bodyRead order Wnd1 s p body =
+    let r : WindowParsed = windowRead order s p body in
+    record { answer = r .answer; «record» = record { kind = Wnd1; base = r .base; picture = blankPicture; window = r .window; alignment = blankAlignment } }
+bodyRead order Ali1 s p body =
+    let r : AlignmentParsed = alignmentRead order s p body in
+    record { answer = r .answer; «record» = record { kind = Ali1; base = r .base; picture = blankPicture; window = blankWindow; alignment = r .alignment } }
+
+-- the lists after it: the numbers read over the front of those that the kind takes, where nothing was refused
+unfoldable pub bodyLists : ByteOrder → Kind → List ℕ → Place → ℕ → Lists → Lists
+bodyLists order Pan1 s p body l = l
+bodyLists order Pic1 s p body l = lists (quadsRead order s p body (l .quads)) (l .units) (l .lines) (l .frames)
+bodyLists order Wnd1 s p body l = lists (readQuads order s p body (l .quads)) (l .units) (l .lines) (readFrames order s p body (l .frames))
+bodyLists order Ali1 s p body l = l
 
 -- ---- answers; the record is blank unless a pane was read
 
@@ -71,21 +91,24 @@ endedWith = record { answer = Sections.End; «record» = blankRecord }
 unfoldable pub passedWith : ℕ → SectionRead
 passedWith next = record { answer = Sections.Passed next; «record» = blankRecord }
 
--- the record where the run came through
-unfoldable pub finished : Place → ℕ → Record → SectionRead
-finished (Places.At c) next r = record { answer = Sections.Pane (c .pos) next; «record» = r }
-finished (Places.Refused why) next r = refusedWith why
+-- the record where the body was read
+unfoldable pub finished : Parsed → ℕ → Record → SectionRead
+finished (Parseds.Read end) next r = record { answer = Sections.Pane end next; «record» = r }
+finished (Parseds.Refused why) next r = refusedWith why
 
--- the body at B, and 7
 unfoldable pub readBody : ByteOrder → Kind → List ℕ → Place → ℕ → ℕ → SectionRead
 readBody order kind s p body next =
-    let b : BodyTaken = bodyTaken order kind s p in
-    finished (textsChecked (b .then) (b .«record» .base) body) next (b .«record»)
+    let b : BodyRead = bodyRead order kind s p body in
+    finished (b .answer) next (b .«record»)
 
 -- other letters are passed
 unfoldable pub byKind : ByteOrder → KindFound → List ℕ → Place → ℕ → ℕ → SectionRead
 byKind order (Is kind) s p body next = readBody order kind s p body next
 byKind order Other s p body next = passedWith next
+
+unfoldable pub listsByKind : ByteOrder → KindFound → List ℕ → Place → ℕ → Lists → Lists
+listsByKind order (Is kind) s p body l = bodyLists order kind s p body l
+listsByKind order Other s p body l = l
 
 -- r where no check has refused
 unfoldable pub orRefused : Place → SectionRead → SectionRead
@@ -105,6 +128,15 @@ readSection order s p l =
     (readStart (length s) p (length (l .quads)) (length (l .units)) (length (l .lines)) (length (l .frames)))
     (cond (eqb p (length s)) endedWith (readAt order s p))
 
--- the lists after it: neither of the two kinds fills any
+-- the lists after it: changed only by the body of a pane that is read
+unfoldable pub listsAt : ByteOrder → List ℕ → ℕ → Lists → Lists
+listsAt order s p l =
+    let h : Header = headerTaken order s p in
+    unlessRefused (h .then) l (listsByKind order (kindOf (h .letters)) s (h .then) (p + 8) l)
+
 unfoldable pub listsAfter : ByteOrder → List ℕ → ℕ → Lists → Lists
-listsAfter order s p l = l
+listsAfter order s p l =
+    unlessRefused
+    (readStart (length s) p (length (l .quads)) (length (l .units)) (length (l .lines)) (length (l .frames)))
+    l
+    (cond (eqb p (length s)) l (listsAt order s p l))

@@ -2,6 +2,8 @@
 use Prim.Native.Nat.{ℕ, _^_, _<_}
 use mathlib.Core.List.{List, [], _∷_}
 use Rattle.pane.specs.Typed.{TypedPane}
+use Rattle.picture.specs.Typed.{TypedPicture}
+use Rattle.window.specs.Typed.{TypedWindow}
 use Rattle.alignment.specs.Alignment.{TypedAlignment}
 use Rattle.strip.specs.Whole.{Whole}
 use Rattle.strip.specs.declared.record.Record.{Record}
@@ -13,6 +15,8 @@ Below n (x ∷ xs) = (x < n) × Below n xs
 
 pub record TypedRecord (r : Record) : Type 0 where
   pub base : TypedPane (r .base)
+  pub picture : TypedPicture (r .picture)
+  pub window : TypedWindow (r .window)
   pub alignment : TypedAlignment (r .alignment)
 
 pub record Typed (w : Whole) : Type 0 where

@@ -1,12 +1,17 @@
 -- A record taken with its lists and label, and when two of these are equal.
 use mathlib.Core.Path.{_≡_}
-use Prim.Native.Nat.{ℕ}
+use Prim.Native.Nat.{ℕ, _*_}
 use mathlib.Core.List.{List, []}
+use lib.ListN.{take}
 use Rattle.pane.specs.Pane.{blankPane}
 use Rattle.pane.specs.Same.{SamePane}
+use Rattle.picture.specs.Picture.{blankPicture}
+use Rattle.picture.specs.Same.{SamePicture}
+use Rattle.window.specs.Window.{blankWindow}
+use Rattle.window.specs.Same.{SameWindow}
 use Rattle.alignment.specs.Alignment.{blankAlignment}
 use Rattle.strip.specs.declared.kind.Kind.{Kind}
-use Rattle.strip.specs.declared.kind.Kind.the-variants.{Pan1, Ali1}
+use Rattle.strip.specs.declared.kind.Kind.the-variants.{Pan1, Pic1, Wnd1, Ali1}
 use Rattle.strip.specs.declared.record.Record.{Record}
 
 -- the lent lists 1 to 4: quads, units, lines, frames
@@ -32,11 +37,17 @@ pub record Whole : Type 0 where
 abbrev pub whole : Record → List ℕ → List ℕ → List ℕ → List ℕ → List ℕ → Whole
 whole r quads units lines frames label = record { pane = r; lists = lists quads units lines frames; label = label }
 
--- the numbers of the lists that a read of the record fills: neither of the two kinds has any
-abbrev pub filled : Record → Lists → Lists
-filled r l = noLists
+-- the numbers of the lists that a read of the record fills: the first of each list, as many as the record counts
+abbrev pub filledBy : Kind → Record → Lists → Lists
+filledBy Pan1 r l = noLists
+filledBy Pic1 r l = lists (take (8 * r .picture .«quad_count») (l .quads)) [] [] []
+filledBy Wnd1 r l = lists (take (8 * r .window .content .«quad_count») (l .quads)) [] [] (take (2 * r .window .«frame_count») (l .frames))
+filledBy Ali1 r l = noLists
 
--- the label of a record in the strip s: neither of the two kinds has one
+abbrev pub filled : Record → Lists → Lists
+filled r l = filledBy (r .kind) r l
+
+-- the label of a record in the strip s: none of the kinds here has one
 abbrev pub labelIn : List ℕ → Record → List ℕ
 labelIn s r = []
 
@@ -46,13 +57,15 @@ readWhole s r l = record { pane = r; lists = filled r l; label = labelIn s r }
 
 -- the record beside an answer that is no pane: pan1, numbers +0, first cases, false
 unfoldable pub blankRecord : Record
-blankRecord = record { kind = Pan1; base = blankPane; alignment = blankAlignment }
+blankRecord = record { kind = Pan1; base = blankPane; picture = blankPicture; window = blankWindow; alignment = blankAlignment }
 
 -- ---- equality: the kind, and every field of that kind
 
 -- what a kind has beyond the base
 unfoldable pub SameOwn : Kind → Whole → Whole → Type 0
 SameOwn Pan1 a b = Unit {0}
+SameOwn Pic1 a b = SamePicture (a .pane .picture) (a .lists .quads) (b .pane .picture) (b .lists .quads)
+SameOwn Wnd1 a b = SameWindow (a .pane .window) (a .lists .quads) (a .lists .frames) (b .pane .window) (b .lists .quads) (b .lists .frames)
 SameOwn Ali1 a b = a .pane .alignment ≡ b .pane .alignment
 
 pub record Same (a b : Whole) : Type 0 where

@@ -9,19 +9,27 @@ use Rattle.core.specs.declared.cursor.Place.{Place}
 use Rattle.core.specs.declared.checks.Written.{Written}
 use Rattle.pane.specs.Pane.{encodePane}
 use Rattle.pane.specs.Checks.{namesChecked, reserveChecked}
+use Rattle.picture.specs.Picture.{pictureChecked, GoodPicture}
+use Rattle.picture.specs.Body as picture
+use Rattle.window.specs.Write.{windowChecked, GoodWindow}
+use Rattle.window.specs.Body as window
 use Rattle.alignment.specs.Body as alignment
 use Rattle.strip.specs.Kinds.{letterBytes, lengthOf}
 use Rattle.strip.specs.Whole.{Whole}
 use Rattle.strip.specs.declared.kind.Kind.{Kind}
-use Rattle.strip.specs.declared.kind.Kind.the-variants.{Pan1, Ali1}
+use Rattle.strip.specs.declared.kind.Kind.the-variants.{Pan1, Pic1, Wnd1, Ali1}
 
--- how many bytes the body of w has at B, and these bytes: the base and what its kind adds (of the two kinds none aligns by the place)
+-- how many bytes the body of w has at B, and these bytes: the base and what its kind adds. Aligning goes by the absolute place
 abbrev pub bodyLength : Kind → ℕ → Whole → ℕ
 bodyLength Pan1 body w = 76
+bodyLength Pic1 body w = picture.bodyLength (w .pane .picture) (w .lists .quads)
+bodyLength Wnd1 body w = window.bodyLength body (w .lists .quads) (w .lists .frames)
 bodyLength Ali1 body w = 88
 
 unfoldable pub encodeBody : Kind → ByteOrder → ℕ → Whole → List ℕ
 encodeBody Pan1 order body w = encodePane order (w .pane .base)
+encodeBody Pic1 order body w = picture.encodeBody order (w .pane .base) (w .pane .picture) (w .lists .quads)
+encodeBody Wnd1 order body w = window.encodeBody order body (w .pane .base) (w .pane .window) (w .lists .quads) (w .lists .frames)
 encodeBody Ali1 order body w = alignment.encodeBody order (w .pane .base) (w .pane .alignment)
 
 -- header, body of n bytes, and zeros to a multiple of 4
@@ -42,9 +50,25 @@ section order p w =
 abbrev pub sectionEnd : ℕ → Whole → ℕ
 sectionEnd p w = p + sizeOf p w
 
--- 1, 2, 9, 10 and 16 of a write into n bytes
+-- 11 and 12, of the kinds that have lists
+unfoldable pub ownChecked : Kind → Place → Whole → Place
+ownChecked Pan1 p w = p
+ownChecked Pic1 p w = pictureChecked p (w .lists .quads)
+ownChecked Wnd1 p w = windowChecked p (w .lists .quads) (w .lists .frames)
+ownChecked Ali1 p w = p
+
+-- what these leave
+unfoldable pub GoodOwn : Kind → Whole → Type 0
+GoodOwn Pan1 w = Unit {0}
+GoodOwn Pic1 w = GoodPicture (w .lists .quads)
+GoodOwn Wnd1 w = GoodWindow (w .lists .quads) (w .lists .frames)
+GoodOwn Ali1 w = Unit {0}
+
+-- 1, 2, 9, 10, the kind's own, and 16 of a write into n bytes
 unfoldable pub writeChecked : Whole → ℕ → ℕ → Place
-writeChecked w n p = endChecked (reserveChecked (namesChecked (sectionStart n p) (w .pane .base)) (w .pane .base)) (sectionEnd p w) n
+writeChecked w n p =
+    let base : Place = reserveChecked (namesChecked (sectionStart n p) (w .pane .base)) (w .pane .base) in
+    endChecked (ownChecked (w .pane .kind) base w) (sectionEnd p w) n
 
 -- THE SECTION WRITE of w at p of an output o of n bytes: its answer, and the output after it
 unfoldable pub writeAnswer : Whole → ℕ → ℕ → Written

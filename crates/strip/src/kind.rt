@@ -5,6 +5,8 @@ ghost use Rattle.strip.specs.Kinds.{lettersOf, lengthOf, kindOf};
 
 pub enum Kind {
     Pan1,
+    Pic1,
+    Wnd1,
     Ali1,
 }
 
@@ -17,6 +19,10 @@ impl Kind {
     // The letters as the number that they spell, the lowest byte first.
     pub const PAN1: u32 = 0x316E6170;
 
+    pub const PIC1: u32 = 0x31636970;
+
+    pub const WND1: u32 = 0x31646E77;
+
     pub const ALI1: u32 = 0x31696C61;
 
     // The letters.
@@ -25,6 +31,8 @@ impl Kind {
     {
         match self {
             Kind::Pan1 => Kind::PAN1,
+            Kind::Pic1 => Kind::PIC1,
+            Kind::Wnd1 => Kind::WND1,
             Kind::Ali1 => Kind::ALI1,
         }
     }
@@ -35,6 +43,8 @@ impl Kind {
     {
         match self {
             Kind::Pan1 => 76,
+            Kind::Pic1 => 96,
+            Kind::Wnd1 => 104,
             Kind::Ali1 => 88,
         }
     }
@@ -45,6 +55,12 @@ impl Kind {
     {
         if n == Kind::PAN1 {
             return KindFound::Is(Kind::Pan1);
+        }
+        if n == Kind::PIC1 {
+            return KindFound::Is(Kind::Pic1);
+        }
+        if n == Kind::WND1 {
+            return KindFound::Is(Kind::Wnd1);
         }
         if n == Kind::ALI1 {
             return KindFound::Is(Kind::Ali1);

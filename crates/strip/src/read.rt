@@ -3,17 +3,20 @@ use crate::kind::Kind;
 use crate::kind::KindFound;
 use crate::record::Record;
 use core::checks;
+use core::checks::Parsed;
 use core::cursor;
 use core::cursor::ByteOrder;
 use core::cursor::Cursor;
 use core::cursor::Place;
 use core::error::Refusal;
-use pane::checks::texts_checked;
 ghost use mathlib.Core.Path.{_≡_};
 ghost use Prim.Native.Nat.{_+_, _^_, _≤_, _<_};
 ghost use lib.ListN.{length};
 ghost use Rattle.strip.specs.Whole.{lists};
-ghost use Rattle.strip.specs.Read.{readStart, headerTaken, bodyTaken, refusedWith, endedWith, passedWith, readBody, readAt, readSection, listsAfter};
+ghost use Rattle.strip.specs.Read.{readStart, headerTaken, bodyRead, bodyLists, refusedWith, endedWith, passedWith, finished, readAt, listsAt, readSection, listsAfter};
+ghost use Rattle.strip.specs.Strip.{Full};
+ghost use Rattle.picture.specs.Body.{quadsRead};
+ghost use Rattle.window.specs.Body.{readQuads, readFrames};
 
 // What a section read answers: the place after the body read and the next section; the next section; the end; or why not.
 pub enum Section {
@@ -34,9 +37,9 @@ pub struct Header {
     pub then: Place,
 }
 
-pub struct BodyTaken {
+pub struct BodyRead {
+    pub answer: Parsed,
     pub record: Record,
-    pub then: Place,
 }
 
 // 1, 2 and 3
@@ -83,36 +86,6 @@ fn take_header(order: ByteOrder, data: &[u8], place: usize) -> Header
     }
 }
 
-fn take_body(order: ByteOrder, kind: Kind, data: &[u8], p: Place) -> BodyTaken
-    ensures { λ r. ⌜ r ≡ bodyTaken order kind (now («data» .entry)) p ⌝ }
-{
-    let taken = pane::take_pane(order, data, p);
-    let base = taken.pane;
-    let p1 = taken.then;
-    match kind {
-        Kind::Pan1 => {
-            let alignment = alignment::blank_alignment();
-            let record = Record {
-                kind: Kind::Pan1,
-                base,
-                alignment,
-            };
-            BodyTaken { record, then: p1 }
-        }
-        Kind::Ali1 => {
-            let own = alignment::take_alignment(order, data, p1);
-            let alignment = own.alignment;
-            let then = own.then;
-            let record = Record {
-                kind: Kind::Ali1,
-                base,
-                alignment,
-            };
-            BodyTaken { record, then }
-        }
-    }
-}
-
 fn refused(why: Refusal) -> SectionRead
     ensures { λ r. ⌜ r ≡ refusedWith why ⌝ }
 {
@@ -143,38 +116,151 @@ fn passed(next: usize) -> SectionRead
     }
 }
 
-// The body, and check 7.
-fn read_body(
+// ---- the body of each kind
+
+fn read_pan1(order: ByteOrder, data: &[u8], p: Place, body: usize) -> BodyRead
+    requires { ⌜ body < 2 ^ 32 ⌝ }
+    ensures { λ r. ⌜ r ≡ bodyRead order Kind.Pan1 (now («data» .entry)) p body ⌝ }
+{
+    let read = pane::body::read(order, data, p, body);
+    let answer = read.answer;
+    let base = read.pane;
+    let picture = picture::blank_picture();
+    let window = window::blank_window();
+    let alignment = alignment::blank_alignment();
+    let record = Record {
+        kind: Kind::Pan1,
+        base,
+        picture,
+        window,
+        alignment,
+    };
+    BodyRead { answer, record }
+}
+
+fn read_pic1(order: ByteOrder, data: &[u8], p: Place, body: usize, quads: &mut [u32]) -> BodyRead
+    requires { ⌜ (body < 2 ^ 32) × (2040 ≤ length (now quads)) ⌝ }
+    ensures { λ r. ⌜ r ≡ bodyRead order Kind.Pic1 (now («data» .entry)) p body ⌝ }
+    ensures { λ _. ⌜ now (quads .exit) ≡ quadsRead order (now («data» .entry)) p body (now (quads .entry)) ⌝ }
+{
+    let read = picture::body::read(order, data, p, body, quads);
+    let answer = read.answer;
+    let base = read.base;
+    let picture = read.picture;
+    let window = window::blank_window();
+    let alignment = alignment::blank_alignment();
+    let record = Record {
+        kind: Kind::Pic1,
+        base,
+        picture,
+        window,
+        alignment,
+    };
+    BodyRead { answer, record }
+}
+
+fn read_wnd1(
+    order: ByteOrder,
+    data: &[u8],
+    p: Place,
+    body: usize,
+    quads: &mut [u32],
+    frames: &mut [u16],
+) -> BodyRead
+    requires { ⌜ (8 ≤ body) × (body < 2 ^ 32) × (2040 ≤ length (now quads)) × (510 ≤ length (now frames)) ⌝ }
+    ensures { λ r. ⌜ r ≡ bodyRead order Kind.Wnd1 (now («data» .entry)) p body ⌝ }
+    ensures { λ _. ⌜ now (quads .exit) ≡ readQuads order (now («data» .entry)) p body (now (quads .entry)) ⌝ }
+    ensures { λ _. ⌜ now (frames .exit) ≡ readFrames order (now («data» .entry)) p body (now (frames .entry)) ⌝ }
+{
+    let read = window::body::read(order, data, p, body, quads, frames);
+    let answer = read.answer;
+    let base = read.base;
+    let window = read.window;
+    let picture = picture::blank_picture();
+    let alignment = alignment::blank_alignment();
+    let record = Record {
+        kind: Kind::Wnd1,
+        base,
+        picture,
+        window,
+        alignment,
+    };
+    BodyRead { answer, record }
+}
+
+fn read_ali1(order: ByteOrder, data: &[u8], p: Place, body: usize) -> BodyRead
+    requires { ⌜ body < 2 ^ 32 ⌝ }
+    ensures { λ r. ⌜ r ≡ bodyRead order Kind.Ali1 (now («data» .entry)) p body ⌝ }
+{
+    let read = alignment::body::read(order, data, p, body);
+    let answer = read.answer;
+    let base = read.base;
+    let alignment = read.alignment;
+    let picture = picture::blank_picture();
+    let window = window::blank_window();
+    let record = Record {
+        kind: Kind::Ali1,
+        base,
+        picture,
+        window,
+        alignment,
+    };
+    BodyRead { answer, record }
+}
+
+// The body of a kind.
+fn read_kind(
     order: ByteOrder,
     kind: Kind,
     data: &[u8],
     p: Place,
     body: usize,
-    next: usize,
-) -> SectionRead
-    requires { ⌜ body < 2 ^ 32 ⌝ }
-    ensures { λ r. ⌜ r ≡ readBody order kind (now («data» .entry)) p body next ⌝ }
+    quads: &mut [u32],
+    units: &mut [u16],
+    lines: &mut [u32],
+    frames: &mut [u16],
+) -> BodyRead
+    requires { ⌜ (8 ≤ body) × (body < 2 ^ 32) × Full (lists (now quads) (now units) (now lines) (now frames)) ⌝ }
+    ensures { λ r. ⌜ r ≡ bodyRead order kind (now («data» .entry)) p body ⌝ }
+    ensures { λ _. ⌜ lists (now (quads .exit)) (now (units .exit)) (now (lines .exit)) (now (frames .exit)) ≡ bodyLists order kind (now («data» .entry)) p body (lists (now (quads .entry)) (now (units .entry)) (now (lines .entry)) (now (frames .entry))) ⌝ }
 {
-    let taken = take_body(order, kind, data, p);
-    let record = taken.record;
-    let base = record.base;
-    let p1 = taken.then;
-    let then = texts_checked(p1, base, body);
-    match then {
-        Place::At(c) => {
-            let end = c.pos;
+    match kind {
+        Kind::Pan1 => read_pan1(order, data, p, body),
+        Kind::Pic1 => read_pic1(order, data, p, body, quads),
+        Kind::Wnd1 => read_wnd1(order, data, p, body, quads, frames),
+        Kind::Ali1 => read_ali1(order, data, p, body),
+    }
+}
+
+// A body that was read, as a section.
+fn finish(read: BodyRead, next: usize) -> SectionRead
+    ensures { λ r. ⌜ r ≡ finished (read .answer) next (read .«record») ⌝ }
+{
+    let answer = read.answer;
+    match answer {
+        Parsed::Read { end } => {
+            let record = read.record;
             SectionRead {
                 answer: Section::Pane { end, next },
                 record,
             }
         }
-        Place::Refused(why) => refused(why),
+        Parsed::Refused(why) => refused(why),
     }
 }
 
-fn read_at(order: ByteOrder, data: &[u8], place: usize) -> SectionRead
-    requires { ⌜ (place ≤ length (now «data»)) × (length (now «data») ≤ 16777216) ⌝ }
+fn read_at(
+    order: ByteOrder,
+    data: &[u8],
+    place: usize,
+    quads: &mut [u32],
+    units: &mut [u16],
+    lines: &mut [u32],
+    frames: &mut [u16],
+) -> SectionRead
+    requires { ⌜ (place ≤ length (now «data»)) × (length (now «data») ≤ 16777216) × Full (lists (now quads) (now units) (now lines) (now frames)) ⌝ }
     ensures { λ r. ⌜ r ≡ readAt order (now («data» .entry)) place ⌝ }
+    ensures { λ _. ⌜ lists (now (quads .exit)) (now (units .exit)) (now (lines .exit)) (now (frames .exit)) ≡ listsAt order (now («data» .entry)) place (lists (now (quads .entry)) (now (units .entry)) (now (lines .entry)) (now (frames .entry))) ⌝ }
 {
     let header = take_header(order, data, place);
     let letters = header.letters;
@@ -187,7 +273,19 @@ fn read_at(order: ByteOrder, data: &[u8], place: usize) -> SectionRead
             let found = Kind::of_letters(letters);
             match found {
                 KindFound::Is(kind) => {
-                    read_body(order, kind, data, Place::At(c), place + 8, next)
+                    let body = place + 8;
+                    let read = read_kind(
+                        order,
+                        kind,
+                        data,
+                        Place::At(c),
+                        body,
+                        quads,
+                        units,
+                        lines,
+                        frames,
+                    );
+                    finish(read, next)
                 }
                 KindFound::Other => passed(next),
             }
@@ -222,7 +320,7 @@ pub fn read_section(
             if place == data.len() {
                 ended()
             } else {
-                read_at(order, data, place)
+                read_at(order, data, place, quads, units, lines, frames)
             }
         }
     }

@@ -2,6 +2,8 @@
 use crate::kind::Kind;
 use alignment::AlignmentPane;
 use pane::Pane;
+use picture::PicturePane;
+use window::WindowPane;
 ghost use mathlib.Core.Path.{_≡_};
 ghost use Prim.Native.Nat.{_^_, _<_};
 ghost use Rattle.strip.specs.Whole.{blankRecord, whole};
@@ -11,6 +13,8 @@ ghost use Rattle.strip.specs.Typed.{Below, Typed, TypedRecord};
 pub struct Record {
     pub kind: Kind,
     pub base: Pane,
+    pub picture: PicturePane,
+    pub window: WindowPane,
     pub alignment: AlignmentPane,
 }
 
@@ -19,10 +23,14 @@ pub fn blank_record() -> Record
     ensures { λ r. ⌜ r ≡ blankRecord ⌝ }
 {
     let base = pane::blank_pane();
+    let picture = picture::blank_picture();
+    let window = window::blank_window();
     let alignment = alignment::blank_alignment();
     Record {
         kind: Kind::Pan1,
         base,
+        picture,
+        window,
         alignment,
     }
 }
@@ -57,6 +65,8 @@ fn typed_record(r: Record)
     ensures { λ _. ⌜ TypedRecord r ⌝ }
 {
     pane::typed_pane(r.base);
+    picture::typed_picture(r.picture);
+    window::typed_window(r.window);
     alignment::typed_alignment(r.alignment);
 }
 

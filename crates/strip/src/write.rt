@@ -14,7 +14,7 @@ ghost use lib.ListN.{length};
 ghost use Rattle.core.specs.Bytes.{Room, Put};
 ghost use Rattle.pane.specs.Pane.{Sound};
 ghost use Rattle.strip.specs.Whole.{whole};
-ghost use Rattle.strip.specs.Write.{bodyLength, encodeBody, sectionSize, sizeOf, section, writeChecked, writeAnswer, writeOutput};
+ghost use Rattle.strip.specs.Write.{GoodOwn, ownChecked, bodyLength, encodeBody, sectionSize, sizeOf, section, writeChecked, writeAnswer, writeOutput};
 
 // Header, body and padding of a body of n bytes.
 fn section_size(n: usize) -> usize
@@ -34,16 +34,40 @@ fn body_length(
     label: &[u8],
     body: usize,
 ) -> usize
+    requires { ⌜ (body < 2 ^ 32) × GoodOwn (r .kind) (whole r (now quads) (now units) (now lines) (now frames) (now label)) ⌝ }
     ensures { λ n. ⌜ (n ≡ bodyLength (r .kind) body (whole r (now (quads .entry)) (now (units .entry)) (now (lines .entry)) (now (frames .entry)) (now (label .entry)))) × (n < 2 ^ 31) ⌝ }
 {
     let kind = r.kind;
     match kind {
         Kind::Pan1 => 76,
+        Kind::Pic1 => picture::body::body_length(r.picture, quads),
+        Kind::Wnd1 => 76 + window::write::window_length(body, quads.len(), frames.len()),
         Kind::Ali1 => 88,
     }
 }
 
-// 1, 2, 9, 10 and 16
+// The kind's own checks.
+fn own_checked(
+    p: Place,
+    r: Record,
+    quads: &[u32],
+    units: &[u16],
+    lines: &[u32],
+    frames: &[u16],
+    label: &[u8],
+) -> Place
+    ensures { λ a. ⌜ a ≡ ownChecked (r .kind) p (whole r (now (quads .entry)) (now (units .entry)) (now (lines .entry)) (now (frames .entry)) (now (label .entry))) ⌝ }
+{
+    let kind = r.kind;
+    match kind {
+        Kind::Pan1 => p,
+        Kind::Pic1 => picture::picture_checked(p, quads),
+        Kind::Wnd1 => window::write::window_checked(p, quads, frames),
+        Kind::Ali1 => p,
+    }
+}
+
+// 1, 2, 9, 10, the kind's own, and 16.
 fn write_checked(
     r: Record,
     quads: &[u32],
@@ -60,6 +84,7 @@ fn write_checked(
     let p = checks::section_start(length, place);
     let p = names_checked(p, base);
     let p = reserve_checked(p, base);
+    let p = own_checked(p, r, quads, units, lines, frames, label);
     match p {
         Place::Refused(why) => Place::Refused(why),
         Place::At(c) => {
@@ -81,12 +106,14 @@ fn put_body(
     out: &mut [u8],
     p: usize,
 ) -> usize
-    requires { ⌜ Sound (r .base) × Room (now out) p (bodyLength (r .kind) p (whole r (now quads) (now units) (now lines) (now frames) (now label))) ⌝ }
+    requires { ⌜ Sound (r .base) × (p < 2 ^ 32) × GoodOwn (r .kind) (whole r (now quads) (now units) (now lines) (now frames) (now label)) × Room (now out) p (bodyLength (r .kind) p (whole r (now quads) (now units) (now lines) (now frames) (now label))) ⌝ }
     ensures { λ q. ⌜ Put (now (out .entry)) p (bodyLength (r .kind) p (whole r (now (quads .entry)) (now (units .entry)) (now (lines .entry)) (now (frames .entry)) (now (label .entry)))) (encodeBody (r .kind) order p (whole r (now (quads .entry)) (now (units .entry)) (now (lines .entry)) (now (frames .entry)) (now (label .entry)))) q (now (out .exit)) ⌝ }
 {
     let kind = r.kind;
     match kind {
         Kind::Pan1 => pane::put_pane(order, out, p, r.base),
+        Kind::Pic1 => picture::body::put_body(order, out, p, r.base, r.picture, quads),
+        Kind::Wnd1 => window::body::put_body(order, out, p, r.base, r.window, quads, frames),
         Kind::Ali1 => alignment::body::put_body(order, out, p, r.base, r.alignment),
     }
 }
@@ -102,7 +129,7 @@ fn put_section(
     out: &mut [u8],
     p: usize,
 ) -> usize
-    requires { ⌜ Sound (r .base) × Room (now out) p (sizeOf p (whole r (now quads) (now units) (now lines) (now frames) (now label))) ⌝ }
+    requires { ⌜ Sound (r .base) × (p ≤ 16777216) × GoodOwn (r .kind) (whole r (now quads) (now units) (now lines) (now frames) (now label)) × Room (now out) p (sizeOf p (whole r (now quads) (now units) (now lines) (now frames) (now label))) ⌝ }
     ensures { λ q. ⌜ Put (now (out .entry)) p (sizeOf p (whole r (now (quads .entry)) (now (units .entry)) (now (lines .entry)) (now (frames .entry)) (now (label .entry)))) (section order p (whole r (now (quads .entry)) (now (units .entry)) (now (lines .entry)) (now (frames .entry)) (now (label .entry)))) q (now (out .exit)) ⌝ }
 {
     let kind = r.kind;
@@ -117,7 +144,7 @@ fn put_section(
     writer::put_zeros(out, q, zeros)
 }
 
-// The section at a place: checks 1, 2, 9, 10, 16. A refusal leaves the output as it was; an accepted write answers its end, and changes no byte but its own.
+// The section at a place: checks 1, 2, 9, 10, the kind's own, 16. A refusal leaves the output as it was; an accepted write answers its end, and changes no byte but its own.
 // The lists and the label of a kind that lacks them are not looked at.
 pub fn write_section(
     order: ByteOrder,

@@ -1,5 +1,6 @@
 pub mod Floats
 pub mod Parts
 pub mod Colors
-pub mod Quads
+pub mod QuadBits
+pub mod QuadRuns
 pub mod Examples

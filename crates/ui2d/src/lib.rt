@@ -1,4 +1,6 @@
 // Floats kept by their bits, vectors, colours and quads: at a place of lent bytes, and quads in a lent list of bits.
+pub mod quads;
+
 use core::cursor::ByteOrder;
 use core::cursor::Place;
 ghost use mathlib.Core.Path.{_≡_};

@@ -1,4 +1,4 @@
-use Rattle.ui2d.proofs.Quads.{corners-stored}
+use Rattle.ui2d.proofs.QuadBits.{corners-stored}
 use borrow.Author.Needs.{needs}
 use Rattle.ui2d.proofs.store_quad.Statement.{statement}
 use Rattle.ui2d.proofs.store_quad.Tie as tie

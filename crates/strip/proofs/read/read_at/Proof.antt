@@ -1,4 +1,5 @@
 use mathlib.Core.Path.{sym, _∙_}
+use Rattle.strip.specs.Whole.{lists}
 use Rattle.strip.proofs.Steps.{header-refused, header-size, header-kind, header-other}
 use native.Mathlib.Omega.{arith}
 use borrow.Author.Needs.{needs}
@@ -7,8 +8,9 @@ use Rattle.strip.proofs.read.read_at.Tie as tie
 use Rattle.strip.proofs.read.read_at.Reads as reads
 use Rattle.strip.proofs.read.read_at.Lts as lts
 use Rattle.strip.proofs.kind.Kind.of_letters.Reads as of-letters-reads
+use Rattle.strip.proofs.read.finish.Reads as finish-reads
 use Rattle.strip.proofs.read.passed.Reads as passed-reads
-use Rattle.strip.proofs.read.read_body.Reads as read-body-reads
+use Rattle.strip.proofs.read.read_kind.Reads as read-kind-reads
 use Rattle.strip.proofs.read.refused.Reads as refused-reads
 use Rattle.strip.proofs.read.take_header.Reads as take-header-reads
 
@@ -25,7 +27,7 @@ enum-known-then-2 : tie.Need-enum-known-then-2
 enum-known-then-2 c = search needs
 
 add-next : tie.Need-add-next
-add-next c = omega (arith, header-size _ _ _ _ (c .before .before .before .take-header .ensures) _ (c .before .then2 .given .1) (c .before .before .before .before .before .pre .0), c .before .before .before .before .before .pre .1)
+add-next c = omega (arith, header-size _ _ _ _ (c .before .before .before .take-header .ensures) _ (c .before .then2 .given .1) (c .before .before .before .before .before .before .before .before .before .pre .0), c .before .before .before .before .before .before .before .before .before .pre .1)
 
 of-letters-requires : tie.Need-of-letters-requires
 of-letters-requires c κs = search needs
@@ -33,11 +35,14 @@ of-letters-requires c κs = search needs
 enum-known-found : tie.Need-enum-known-found
 enum-known-found c = search needs
 
-add-read-body : tie.Need-add-read-body
-add-read-body c = search needs
+add-body : tie.Need-add-body
+add-body c = search needs
 
-read-body-requires : tie.Need-read-body-requires
-read-body-requires c κs = search needs
+read-kind-requires : tie.Need-read-kind-requires
+read-kind-requires c κs = search needs
+
+finish-requires : tie.Need-finish-requires
+finish-requires c κs = search needs
 
 enum-told : tie.Need-enum-told
 enum-told c = search needs
@@ -46,13 +51,31 @@ passed-requires : tie.Need-passed-requires
 passed-requires c κs = search needs
 
 returns : tie.Need-returns
-returns c = c .refused .ensures ∙ header-refused _ _ _ _ (c .before .before .before .before .take-header .ensures) _ (c .before .before .then .given .1)
+returns c =
+    let x = header-refused _ _ _ _ (c .before .before .before .before .take-header .ensures) _ (c .before .before .then .given .1) (lists _ _ _ _) in
+    (c .refused .ensures ∙ x .0, x .1)
+
+same-length : tie.Need-same-length
+same-length c = search needs
+
+same-length-2 : tie.Need-same-length-2
+same-length-2 c = search needs
+
+same-length-3 : tie.Need-same-length-3
+same-length-3 c = search needs
+
+same-length-4 : tie.Need-same-length-4
+same-length-4 c = search needs
 
 returns-2 : tie.Need-returns-2
-returns-2 c = c .read-body .ensures ∙ header-kind _ _ _ _ (c .before .before .before .before .before .before .before .before .take-header .ensures) _ (c .before .before .before .before .before .before .then2 .given .1) _ (sym (c .before .before .found .given .1) ∙ c .before .before .before .before .of-letters .ensures)
+returns-2 c =
+    let x = header-kind _ _ _ _ (c .before .before .before .before .before .before .before .before .before .before .before .before .before .before .before .before .before .before .before .before .before .take-header .ensures) _ (c .before .before .before .before .before .before .before .before .before .before .before .before .before .before .before .before .before .before .before .then2 .given .1) _ (sym (c .before .before .before .before .before .before .before .before .before .before .before .before .before .before .before .found .given .1) ∙ c .before .before .before .before .before .before .before .before .before .before .before .before .before .before .before .before .before .of-letters .ensures) (lists _ _ _ _) _ _ (c .before .before .before .before .before .before .before .before .before .read-kind .ensures .0) (c .before .before .before .before .before .before .before .before .before .read-kind .ensures .1) in
+    (c .finish .ensures ∙ x .0, x .1)
 
 returns-3 : tie.Need-returns-3
-returns-3 c = c .passed .ensures ∙ header-other _ _ _ _ (c .before .before .before .before .before .before .before .take-header .ensures) _ (c .before .before .before .before .before .then2 .given .1) (sym (c .before .enum-told .given .1) ∙ c .before .before .before .of-letters .ensures)
+returns-3 c =
+    let x = header-other _ _ _ _ (c .before .before .before .before .before .before .before .take-header .ensures) _ (c .before .before .before .before .before .then2 .given .1) (sym (c .before .enum-told .given .1) ∙ c .before .before .before .of-letters .ensures) (lists _ _ _ _) in
+    (c .passed .ensures ∙ x .0, x .1)
 
 pub read-at-spec : {M : Type 1} → statement M
 read-at-spec =
@@ -65,10 +88,15 @@ read-at-spec =
     add-next
     of-letters-requires
     enum-known-found
-    add-read-body
-    read-body-requires
+    add-body
+    read-kind-requires
+    finish-requires
     enum-told
     passed-requires
     returns
+    same-length
+    same-length-2
+    same-length-3
+    same-length-4
     returns-2
     returns-3)

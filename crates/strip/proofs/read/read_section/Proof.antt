@@ -1,5 +1,4 @@
 use mathlib.Core.Path.{refl, sym, _∙_}
-use Rattle.strip.specs.Read.{listsAfter}
 use Rattle.strip.specs.Whole.{lists}
 use Rattle.strip.proofs.Cleared.{read-started}
 use Rattle.strip.proofs.Steps.{read-refused, read-end, read-on}
@@ -29,19 +28,34 @@ ended-requires : tie.Need-ended-requires
 ended-requires c κs = search needs
 
 read-at-requires : tie.Need-read-at-requires
-read-at-requires c κs = let a = read-started _ _ _ _ _ _ _ (sym (c .before .before .before .read-start .ensures) ∙ c .before .enum-told .given .1) in (a .within, a .most)
+read-at-requires c κs = let (a, f) = read-started _ _ (lists _ _ _ _) _ (sym (c .before .before .before .before .before .before .before .read-start .ensures) ∙ c .before .before .before .before .before .enum-told .given .1) in (a .within, a .most, f)
 
 returns : tie.Need-returns
-unfolding listsAfter
-returns c = (c .refused .ensures ∙ read-refused _ _ _ (lists _ _ _ _) _ (c .before .before .before .before .read-start .ensures) _ (c .before .before .p .given .1), refl)
+returns c =
+    let x = read-refused _ _ _ (lists _ _ _ _) _ (c .before .before .before .before .read-start .ensures) _ (c .before .before .p .given .1) in
+    (c .refused .ensures ∙ x .0, x .1)
 
 returns-2 : tie.Need-returns-2
-unfolding listsAfter
-returns-2 c = (c .ended .ensures ∙ read-end _ _ _ (lists _ _ _ _) _ (c .before .before .before .before .read-start .ensures) _ (c .before .before .enum-told .given .1) (c .before .if1 .taken), refl)
+returns-2 c =
+    let x = read-end _ _ _ (lists _ _ _ _) _ (c .before .before .before .before .read-start .ensures) _ (c .before .before .enum-told .given .1) (c .before .if1 .taken) in
+    (c .ended .ensures ∙ x .0, x .1)
+
+same-length : tie.Need-same-length
+same-length c = search needs
+
+same-length-2 : tie.Need-same-length-2
+same-length-2 c = search needs
+
+same-length-3 : tie.Need-same-length-3
+same-length-3 c = search needs
+
+same-length-4 : tie.Need-same-length-4
+same-length-4 c = search needs
 
 returns-3 : tie.Need-returns-3
-unfolding listsAfter
-returns-3 c = (c .read-at .ensures ∙ read-on _ _ _ (lists _ _ _ _) _ (c .before .before .before .before .read-start .ensures) _ (c .before .before .enum-told .given .1) (c .before .if1 .left), refl)
+returns-3 c =
+    let x = read-on _ _ _ (lists _ _ _ _) _ (c .before .before .before .before .before .before .before .before .before .before .before .before .before .before .before .before .read-start .ensures) _ (c .before .before .before .before .before .before .before .before .before .before .before .before .before .before .enum-told .given .1) (c .before .before .before .before .before .before .before .before .before .before .before .before .before .if1 .left) in
+    (c .before .before .before .before .before .before .before .before .read-at .ensures .0 ∙ x .0, c .before .before .before .before .before .before .before .before .read-at .ensures .1 ∙ x .1)
 
 pub read-section-spec : {M : Type 1} → statement M
 read-section-spec =
@@ -55,4 +69,8 @@ read-section-spec =
     read-at-requires
     returns
     returns-2
+    same-length
+    same-length-2
+    same-length-3
+    same-length-4
     returns-3)

@@ -36,19 +36,19 @@ padding-at-requires : tie.Need-padding-at-requires
 padding-at-requires c κs = search needs
 
 put-u32-requires : tie.Need-put-u32-requires
-put-u32-requires c κs = omega (arith, room _ _ _ (c .before .before .before .before .before .before .before .before .before .before .before .pre .1))
+put-u32-requires c κs = omega (arith, room _ _ _ (c .before .before .before .before .before .before .before .before .before .before .before .pre .3))
 
 cast-put-u32 : tie.Need-cast-put-u32
 cast-put-u32 c = omega (arith, c .before .before .before .before .before .before .section-size .ensures, size-bound (c .before .before .before .before .before .before .before .body-length .result), c .before .before .before .before .before .before .before .body-length .ensures .1)
 
 put-u32-requires-2 : tie.Need-put-u32-requires-2
-put-u32-requires-2 c κs = omega (arith, room _ _ _ (c .before .before .before .before .before .before .before .before .before .before .before .before .before .before .before .pre .1))
+put-u32-requires-2 c κs = omega (arith, room _ _ _ (c .before .before .before .before .before .before .before .before .before .before .before .before .before .before .before .pre .3))
 
 put-body-requires : tie.Need-put-body-requires
-put-body-requires c κs = let s = c .before .before .before .before .before .before .before .before .before .before .before .before .before .before .before .before .before .before .before in (s .pre .0, omega (arith, room _ _ _ (s .pre .1)))
+put-body-requires c κs = let s = c .before .before .before .before .before .before .before .before .before .before .before .before .before .before .before .before .before .before .before in (s .pre .0, omega (arith, s .pre .1), s .pre .2, omega (arith, room _ _ _ (s .pre .3)))
 
 put-zeros-requires : tie.Need-put-zeros-requires
-put-zeros-requires c κs = omega (arith, room _ _ _ (c .before .before .before .before .before .before .before .before .before .before .before .before .before .before .before .before .before .before .before .before .before .before .before .pre .1), c .before .before .before .before .before .before .before .before .before .before .before .before .before .padding-at .ensures ∙ ap padding (c .before .before .before .before .before .before .before .before .before .before .before .before .before .before .before .body-length .ensures .0))
+put-zeros-requires c κs = omega (arith, room _ _ _ (c .before .before .before .before .before .before .before .before .before .before .before .before .before .before .before .before .before .before .before .before .before .before .before .pre .3), c .before .before .before .before .before .before .before .before .before .before .before .before .before .padding-at .ensures ∙ ap padding (c .before .before .before .before .before .before .before .before .before .before .before .before .before .before .before .body-length .ensures .0))
 
 same-length : tie.Need-same-length
 same-length c = search needs

@@ -4,6 +4,7 @@ use Rattle.pane.proofs.Cleared.{sound}
 use Rattle.strip.specs.Whole.{whole}
 use Rattle.strip.specs.Write.{writeAnswer, writeOutput}
 use Rattle.strip.proofs.Cleared.{write-cleared}
+use native.Mathlib.Omega.{arith}
 use borrow.Author.Needs.{needs}
 use Rattle.strip.proofs.write.write_section.Statement.{statement}
 use Rattle.strip.proofs.write.write_section.Tie as tie
@@ -24,7 +25,7 @@ enum-told c = search needs
 put-section-requires : tie.Need-put-section-requires
 put-section-requires c κs =
     let a = write-cleared (whole _ _ _ _ _ _) _ _ _ (sym (c .before .before .before .write-checked .ensures) ∙ c .before .enum-told .given .1) in
-    (sound _ (a .good), a .fits)
+    (sound _ (a .good), omega (arith, a .place .most, a .place .within), a .own, a .fits)
 
 returns : tie.Need-returns
 unfolding writeAnswer writeOutput

@@ -1,0 +1,55 @@
+use Rattle.picture.proofs.Calls.{read-measured, read-got, read-refused}
+use borrow.Author.Needs.{needs}
+use Rattle.picture.proofs.body.read.Statement.{statement}
+use Rattle.picture.proofs.body.read.Tie as tie
+
+take-pane-requires : tie.Need-take-pane-requires
+take-pane-requires c κs = search needs
+
+measure-picture-requires : tie.Need-measure-picture-requires
+measure-picture-requires c κs = search needs
+
+texts-checked-requires : tie.Need-texts-checked-requires
+texts-checked-requires c κs = search needs
+
+enum-known-then : tie.Need-enum-known-then
+enum-known-then c = search needs
+
+fill-picture-requires : tie.Need-fill-picture-requires
+fill-picture-requires c κs =
+    let t = c .before .before .before .before in
+    read-measured _ _ _ _ _ _ _ (t .before .before .before .before .take-pane .ensures) (t .before .before .measure-picture .ensures) (t .texts-checked .ensures) _ (c .before .before .then .given .1) _ (t .before .before .before .before .before .before .before .pre .1)
+
+enum-known-then-2 : tie.Need-enum-known-then-2
+enum-known-then-2 c = search needs
+
+refused-requires : tie.Need-refused-requires
+refused-requires c κs = search needs
+
+same-length : tie.Need-same-length
+same-length c = search needs
+
+returns : tie.Need-returns
+returns c =
+    let t = c .before .before .before .before .before .before .before in
+    read-got _ _ _ _ _ _ _ (t .before .before .before .before .take-pane .ensures) (t .before .before .measure-picture .ensures) (t .texts-checked .ensures) _ (c .before .before .before .before .before .then .given .1) _ _ (c .before .before .fill-picture .ensures)
+
+returns-2 : tie.Need-returns-2
+returns-2 c =
+    let t = c .before .before .before .before in
+    read-refused _ _ _ _ _ _ _ (t .before .before .before .before .take-pane .ensures) (t .before .before .measure-picture .ensures) (t .texts-checked .ensures) _ (c .before .before .then2 .given .1) _ (c .refused .ensures) _
+
+pub read-spec : {M : Type 1} → statement M
+read-spec =
+    tie.close
+    (tie.spec
+    take-pane-requires
+    measure-picture-requires
+    texts-checked-requires
+    enum-known-then
+    fill-picture-requires
+    enum-known-then-2
+    refused-requires
+    same-length
+    returns
+    returns-2)

@@ -1,0 +1,4 @@
+pub mod Picture
+pub mod Body
+pub mod Same
+pub mod Typed

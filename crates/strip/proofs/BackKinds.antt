@@ -1,0 +1,240 @@
+-- A body that a write lets through is read back, kind by kind, anywhere in a buffer.
+use mathlib.Core.Path.{_≡_, refl, sym, ap, _∙_}
+use Prim.Native.Nat.{ℕ, _+_, _-_, _*_, _/_, _%_, _^_, _≤_, _<_}
+use native.Mathlib.Omega.{arith}
+use mathlib.Core.List.{List, [], _∷_, _++_}
+use lib.ListN.{length, take, drop}
+use lib.Seq.{take-append-seam}
+use Rattle.core.specs.Taken.{advanced, over}
+use Rattle.core.specs.Checks.{parsedOf, unlessRefused}
+use Rattle.core.specs.declared.cursor.ByteOrder.{ByteOrder}
+use Rattle.core.specs.declared.cursor.Cursor.{Cursor}
+use Rattle.core.specs.declared.cursor.Place.{Place}
+use Rattle.core.specs.declared.cursor.Place.the-variants.{At}
+use Rattle.core.specs.declared.checks.Parsed.the-variants as Parseds
+use Rattle.core.proofs.Cursors.{pos-advanced, advanced-more}
+use Rattle.core.proofs.Back.{Holds, split, Fit}
+use Rattle.pane.specs.Pane.{encodePane}
+use Rattle.pane.specs.Body.{paneRead}
+use Rattle.pane.proofs.Cleared.{Good, sound}
+use Rattle.pane.proofs.Back.{readBack, length-pane, pane-back, texts-back}
+use Rattle.picture.specs.Picture.{blankPicture, quadsOf, pictureQuads, pictureTaken, pictureLength, encodePicture}
+use Rattle.picture.specs.Body as picture
+use Rattle.picture.specs.declared.PicturePane.{PicturePane}
+use Rattle.picture.proofs.Back as picture-laws
+use Rattle.window.specs.Window.{blankWindow, windowTaken, windowQuads, windowFrames}
+use Rattle.window.specs.Write.{encodeWindow}
+use Rattle.window.specs.Body as window
+use Rattle.window.specs.declared.WindowPane.{WindowPane}
+use Rattle.window.proofs.Back as window-laws
+use Rattle.window.proofs.Fields.{readBackContent}
+use Rattle.alignment.specs.Alignment.{blankAlignment, encodeAlignment}
+use Rattle.alignment.specs.Body as alignment
+use Rattle.alignment.specs.declared.AlignmentPane.{AlignmentPane}
+use Rattle.alignment.proofs.Back as alignment-laws
+use Rattle.strip.specs.Whole.{Lists, Whole, SameOwn, readWhole}
+use Rattle.strip.specs.Typed.{Typed}
+use Rattle.strip.specs.Read.{bodyRead, bodyLists}
+use Rattle.strip.specs.Write.{GoodOwn, encodeBody}
+use Rattle.strip.specs.declared.kind.Kind.{Kind}
+use Rattle.strip.specs.declared.kind.Kind.the-variants.{Pan1, Pic1, Wnd1, Ali1}
+use Rattle.strip.specs.declared.record.Record.{Record}
+use Rattle.strip.specs.declared.read.BodyRead.{BodyRead}
+use Rattle.strip.proofs.Below.{below-fit}
+
+-- what the types and a write's checks say of a record with its lists and label
+pub record GoodWhole (w : Whole) : Type 0 where
+  pub typed : Typed w
+  pub good : Good (w .pane .base)
+  pub own : GoodOwn (w .pane .kind) w
+
+-- what reading a record that was written gives: the base with zeros after its names, counts of the lists, and blank what the kind lacks
+abbrev pub ownPicture : Kind → Whole → PicturePane
+ownPicture Pan1 w = blankPicture
+ownPicture Pic1 w = picture-laws.readBackPicture (w .pane .picture) (w .lists .quads)
+ownPicture Wnd1 w = blankPicture
+ownPicture Ali1 w = blankPicture
+
+abbrev pub ownWindow : Kind → Whole → WindowPane
+ownWindow Pan1 w = blankWindow
+ownWindow Pic1 w = blankWindow
+ownWindow Wnd1 w = window-laws.readBackWindow (w .pane .window) (w .lists .quads) (w .lists .frames)
+ownWindow Ali1 w = blankWindow
+
+abbrev pub ownAlignment : Kind → Whole → AlignmentPane
+ownAlignment Pan1 w = blankAlignment
+ownAlignment Pic1 w = blankAlignment
+ownAlignment Wnd1 w = blankAlignment
+ownAlignment Ali1 w = w .pane .alignment
+
+unfoldable pub readRecord : Kind → Whole → Record
+readRecord k w = record {
+  kind = k;
+  base = readBack (w .pane .base);
+  picture = ownPicture k w;
+  window = ownWindow k w;
+  alignment = ownAlignment k w;
+}
+
+-- a body at B that was written as that of w is read so, and its own part is equal to that of w
+pub record BodyBack (order : ByteOrder) (s : List ℕ) (c : Cursor) (body : ℕ) (k : Kind) (w : Whole) : Type 0 where
+  pub end : ℕ
+  pub read : _≡_ {A = BodyRead} (bodyRead order k s (At c) body) (record { answer = Parseds.Read end; «record» = readRecord k w })
+  pub own : (l : Lists) → SameOwn k (readWhole s (readRecord k w) (bodyLists order k s (At c) body l)) w
+
+-- a list over the front of another
+front : (n : ℕ) (l old : List ℕ) → n ≡ length l → take n (over l old) ≡ l
+front n l old h = rw h (take-append-seam l (drop (length l) old))
+
+module _ {s : List ℕ} (order : ByteOrder) (c : Cursor) (body : ℕ) (w : Whole) (t : Typed w) (g : Good (w .pane .base)) where
+  -- ---- pan1
+
+  pan-back : Holds s (c .pos) (encodeBody Pan1 order body w) → BodyBack order s c body Pan1 w
+  unfolding bodyRead bodyLists encodeBody readRecord SameOwn paneRead parsedOf unlessRefused
+  pan-back h = record {
+    end = advanced c 76 .pos;
+    read = rw (pane-back c order (w .pane .base) (t .pane .base) g h, texts-back (w .pane .base) g (advanced c 76) body);
+    own = λ l. tt;
+  }
+
+  -- ---- ali1
+
+  ali-back : Holds s (c .pos) (encodeBody Ali1 order body w) → BodyBack order s c body Ali1 w
+  unfolding bodyRead bodyLists encodeBody readRecord SameOwn alignment.alignmentRead alignment.encodeBody parsedOf unlessRefused
+  ali-back h =
+      let b = w .pane .base in
+      let a = w .pane .alignment in
+      let (h₁, h₂) = split (encodePane order b) (encodeAlignment order a) 76 (length-pane order b (sound b g)) h in
+      let h₃ : Holds s (advanced c 76 .pos) (encodeAlignment order a) = rw pos-advanced h₂ in
+      record {
+        end = advanced (advanced c 76) 12 .pos;
+        read = rw (
+          pane-back c order b (t .pane .base) g h₁,
+          alignment-laws.alignment-back (advanced c 76) order a (t .pane .alignment) h₃,
+          texts-back b g (advanced (advanced c 76) 12) body,
+        );
+        own = λ l. refl;
+      }
+
+  -- ---- pic1
+
+  module _ (o : GoodOwn Pic1 w) (h : Holds s (c .pos) (encodeBody Pic1 order body w)) where
+    pic-base : Holds s (c .pos) (encodePane order (w .pane .base)) × Holds s (advanced c 76 .pos) (encodePicture order (w .pane .picture) (w .lists .quads))
+    unfolding encodeBody picture.encodeBody
+    pic-base =
+        let (h₁, h₂) = split (encodePane order (w .pane .base)) (encodePicture order (w .pane .picture) (w .lists .quads)) 76 (length-pane order (w .pane .base) (sound _ g)) h in
+        (h₁, rw pos-advanced h₂)
+
+    pic-fit : Fit 4 (w .lists .quads)
+    pic-fit = below-fit 4 (w .lists .quads) (t .quads)
+
+    pic-quads : (old : List ℕ) → picture.quadsRead order s (At c) body old ≡ over (w .lists .quads) old
+    unfolding picture.quadsRead GoodOwn pictureQuads unlessRefused
+    pic-quads old =
+        let x = w .pane .picture in
+        let q = w .lists .quads in
+        let e = picture-laws.quads-back (advanced c 76) order x q (t .pane .picture) o pic-fit (pic-base .1) in
+        rw (
+          pane-back c order (w .pane .base) (t .pane .base) g (pic-base .0),
+          e,
+          picture-laws.picture-back (advanced c 76) order x q (t .pane .picture) o pic-fit (pic-base .1),
+          texts-back (w .pane .base) g (advanced (advanced c 76) (pictureLength x q)) body,
+        )
+
+    pic-back : BodyBack order s c body Pic1 w
+    unfolding bodyRead bodyLists readRecord SameOwn GoodOwn picture.pictureRead parsedOf unlessRefused picture-laws.readBackPicture
+    pic-back =
+        let x = w .pane .picture in
+        let q = w .lists .quads in
+        record {
+          end = advanced (advanced c 76) (pictureLength x q) .pos;
+          read = rw (
+            pane-back c order (w .pane .base) (t .pane .base) g (pic-base .0),
+            picture-laws.picture-back (advanced c 76) order x q (t .pane .picture) o pic-fit (pic-base .1),
+            texts-back (w .pane .base) g (advanced (advanced c 76) (pictureLength x q)) body,
+          );
+          own = λ l.
+              let n : 8 * (length q / 8) ≡ length q = omega (arith, o .whole) in
+              rw (pic-quads (l .quads), front (8 * (length q / 8)) q (l .quads) n) (picture-laws.read-same x q);
+        }
+
+  -- ---- wnd1
+
+  module _ (o : GoodOwn Wnd1 w) (low : 8 ≤ body) (here : c .pos ≡ body) (h : Holds s (c .pos) (encodeBody Wnd1 order body w)) where
+    wnd-base : Holds s (c .pos) (encodePane order (w .pane .base)) × Holds s (advanced c 76 .pos) (encodeWindow order body (w .pane .window) (w .lists .quads) (w .lists .frames))
+    unfolding encodeBody window.encodeBody
+    wnd-base =
+        let (h₁, h₂) = split (encodePane order (w .pane .base)) (encodeWindow order body (w .pane .window) (w .lists .quads) (w .lists .frames)) 76 (length-pane order (w .pane .base) (sound _ g)) h in
+        (h₁, rw pos-advanced h₂)
+
+    wnd-here : advanced c 76 .pos ≡ body + 76
+    wnd-here = pos-advanced c 76 ∙ ap (λ (n : ℕ). n + 76) here
+
+    wnd-quads-fit : Fit 4 (w .lists .quads)
+    wnd-quads-fit = below-fit 4 (w .lists .quads) (t .quads)
+
+    wnd-frames-fit : Fit 2 (w .lists .frames)
+    wnd-frames-fit = below-fit 2 (w .lists .frames) (t .frames)
+
+    wnd-place : window.readPlace order s (At c) body ≡ At (advanced (advanced c 76) 28)
+    unfolding window.readPlace window.ownTaken GoodOwn
+    wnd-place =
+        let x = w .pane .window in
+        let q = w .lists .quads in
+        let f = w .lists .frames in
+        rw (
+          pane-back c order (w .pane .base) (t .pane .base) g (wnd-base .0),
+          window-laws.window-back (advanced c 76) order body x q f (t .pane .window) o wnd-quads-fit wnd-frames-fit low wnd-here (wnd-base .1),
+          texts-back (w .pane .base) g (advanced (advanced c 76) 28) body,
+        )
+
+    wnd-quads : (old : List ℕ) → window.readQuads order s (At c) body old ≡ over (w .lists .quads) old
+    unfolding window.readQuads window.ownTaken GoodOwn unlessRefused
+    wnd-quads old =
+        rw (
+          wnd-place,
+          pane-back c order (w .pane .base) (t .pane .base) g (wnd-base .0),
+          window-laws.quads-back (advanced c 76) order body (w .pane .window) (w .lists .quads) (w .lists .frames) (t .pane .window) o wnd-quads-fit wnd-frames-fit low wnd-here (wnd-base .1),
+        )
+
+    wnd-frames : (old : List ℕ) → window.readFrames order s (At c) body old ≡ over (w .lists .frames) old
+    unfolding window.readFrames window.ownTaken GoodOwn unlessRefused
+    wnd-frames old =
+        rw (
+          wnd-place,
+          pane-back c order (w .pane .base) (t .pane .base) g (wnd-base .0),
+          window-laws.frames-back (advanced c 76) order body (w .pane .window) (w .lists .quads) (w .lists .frames) (t .pane .window) o wnd-quads-fit wnd-frames-fit low wnd-here (wnd-base .1),
+        )
+
+    wnd-back : BodyBack order s c body Wnd1 w
+    unfolding bodyRead bodyLists readRecord SameOwn GoodOwn window.windowRead window.ownTaken parsedOf unlessRefused window-laws.readBackWindow readBackContent
+    wnd-back =
+        let x = w .pane .window in
+        let q = w .lists .quads in
+        let f = w .lists .frames in
+        record {
+          end = advanced (advanced c 76) 28 .pos;
+          read = rw (
+            wnd-place,
+            pane-back c order (w .pane .base) (t .pane .base) g (wnd-base .0),
+            window-laws.window-back (advanced c 76) order body x q f (t .pane .window) o wnd-quads-fit wnd-frames-fit low wnd-here (wnd-base .1),
+          );
+          own = λ l.
+              let n : 8 * (length q / 8) ≡ length q = omega (arith, o .«whole-quads») in
+              let m : 2 * (length f / 2) ≡ length f = omega (arith, o .«whole-frames») in
+              rw (
+                wnd-quads (l .quads),
+                wnd-frames (l .frames),
+                front (8 * (length q / 8)) q (l .quads) n,
+                front (2 * (length f / 2)) f (l .frames) m,
+              )
+              (window-laws.read-same x q f);
+        }
+
+-- every kind
+pub body-back : {s : List ℕ} (order : ByteOrder) (c : Cursor) (body : ℕ) (k : Kind) (w : Whole) → Typed w → Good (w .pane .base) → GoodOwn k w
+    → 8 ≤ body → c .pos ≡ body → Holds s (c .pos) (encodeBody k order body w) → BodyBack order s c body k w
+body-back order c body Pan1 w t g o low here h = pan-back order c body w t g h
+body-back order c body Pic1 w t g o low here h = pic-back order c body w t g o h
+body-back order c body Wnd1 w t g o low here h = wnd-back order c body w t g o low here h
+body-back order c body Ali1 w t g o low here h = ali-back order c body w t g h

@@ -1,0 +1,75 @@
+use Rattle.strip.proofs.Steps.{kind-pan, kind-pic, kind-wnd, kind-ali}
+use borrow.Author.Needs.{needs}
+use Rattle.strip.proofs.read.read_kind.Statement.{statement}
+use Rattle.strip.proofs.read.read_kind.Tie as tie
+use Rattle.strip.proofs.read.read_kind.Reads as reads
+use Rattle.strip.proofs.read.read_kind.Lts as lts
+use Rattle.strip.proofs.read.read_ali1.Reads as read-ali1-reads
+use Rattle.strip.proofs.read.read_pan1.Reads as read-pan1-reads
+use Rattle.strip.proofs.read.read_pic1.Reads as read-pic1-reads
+use Rattle.strip.proofs.read.read_wnd1.Reads as read-wnd1-reads
+
+enum-told : tie.Need-enum-told
+enum-told c = search needs
+
+read-pan1-requires : tie.Need-read-pan1-requires
+read-pan1-requires c κs = search needs
+
+enum-told-2 : tie.Need-enum-told-2
+enum-told-2 c = search needs
+
+read-pic1-requires : tie.Need-read-pic1-requires
+read-pic1-requires c κs = search needs
+
+enum-told-3 : tie.Need-enum-told-3
+enum-told-3 c = search needs
+
+read-wnd1-requires : tie.Need-read-wnd1-requires
+read-wnd1-requires c κs = search needs
+
+enum-told-4 : tie.Need-enum-told-4
+enum-told-4 c = search needs
+
+read-ali1-requires : tie.Need-read-ali1-requires
+read-ali1-requires c κs = search needs
+
+returns : tie.Need-returns
+returns c = kind-pan _ _ _ _ _ _ (c .before .enum-told .given .1) (c .read-pan1 .ensures) _
+
+same-length : tie.Need-same-length
+same-length c = search needs
+
+returns-2 : tie.Need-returns-2
+returns-2 c = kind-pic _ _ _ _ _ _ (c .before .before .before .before .enum-told2 .given .1) (c .before .before .read-pic1 .ensures .0) _ _ _ _ _ (c .before .before .read-pic1 .ensures .1)
+
+same-length-2 : tie.Need-same-length-2
+same-length-2 c = search needs
+
+same-length-3 : tie.Need-same-length-3
+same-length-3 c = search needs
+
+returns-3 : tie.Need-returns-3
+returns-3 c = kind-wnd _ _ _ _ _ _ (c .before .before .before .before .before .before .before .enum-told3 .given .1) (c .before .before .before .before .read-wnd1 .ensures .0) _ _ _ _ _ _ (c .before .before .before .before .read-wnd1 .ensures .1 .0) (c .before .before .before .before .read-wnd1 .ensures .1 .1)
+
+returns-4 : tie.Need-returns-4
+returns-4 c = kind-ali _ _ _ _ _ _ (c .before .enum-told4 .given .1) (c .read-ali1 .ensures) _
+
+pub read-kind-spec : {M : Type 1} → statement M
+read-kind-spec =
+    tie.close
+    (tie.spec
+    enum-told
+    read-pan1-requires
+    enum-told-2
+    read-pic1-requires
+    enum-told-3
+    read-wnd1-requires
+    enum-told-4
+    read-ali1-requires
+    returns
+    same-length
+    returns-2
+    same-length-2
+    same-length-3
+    returns-3
+    returns-4)

@@ -1,0 +1,11 @@
+pub mod Filling
+pub mod Signed
+pub mod Run
+pub mod Puts
+pub mod Cleared
+pub mod Same
+pub mod Lengths
+pub mod Fields
+pub mod Back
+pub mod Calls
+pub mod Examples

@@ -1,0 +1,91 @@
+-- The body calls of a window pane.
+use mathlib.Core.Path.{_≡_}
+use Prim.Native.Nat.{ℕ, _+_}
+use mathlib.Core.List.{List, _++_}
+use lib.ListN.{length}
+use Rattle.core.specs.Bytes.{splice}
+use Rattle.core.specs.Taken.{over}
+use Rattle.core.specs.Checks.{bodyStart, listChecked, endChecked, parsedOf, unlessRefused, writtenOf}
+use Rattle.core.specs.declared.error.Refusal.{Refusal}
+use Rattle.core.specs.declared.cursor.ByteOrder.{ByteOrder}
+use Rattle.core.specs.declared.cursor.Place.{Place}
+use Rattle.core.specs.declared.checks.Parsed.the-variants as Parseds
+use Rattle.core.specs.declared.checks.Written.{Written}
+use Rattle.pane.specs.Pane.{paneTaken, blankPane, encodePane}
+use Rattle.pane.specs.Checks.{textsChecked, namesChecked, reserveChecked}
+use Rattle.pane.specs.declared.Pane.{Pane}
+use Rattle.window.specs.Window.{windowTaken, windowQuads, windowFrames, blankWindow}
+use Rattle.window.specs.Write.{windowChecked, windowLength, encodeWindow}
+use Rattle.window.specs.declared.WindowPane.{WindowPane}
+use Rattle.window.specs.declared.read.WindowTaken.{WindowTaken}
+use Rattle.window.specs.declared.body.WindowParsed.{WindowParsed}
+
+-- what a refused read gives
+pub record Blank (why : Refusal) (r : WindowParsed) : Type 0 where
+  pub answer : r .answer ≡ Parseds.Refused why
+  pub base : r .base ≡ blankPane
+  pub window : r .window ≡ blankWindow
+
+-- ---- reading, from a place p of the run, of a body at B
+
+-- the own reads, after the base
+unfoldable pub ownTaken : ByteOrder → List ℕ → Place → ℕ → WindowTaken
+ownTaken order s p body = windowTaken order s (paneTaken order s p .then) body
+
+-- where the run stands then, after 7
+unfoldable pub readPlace : ByteOrder → List ℕ → Place → ℕ → Place
+readPlace order s p body = textsChecked (ownTaken order s p body .then) (paneTaken order s p .pane) body
+
+-- what is read
+unfoldable pub windowRead : ByteOrder → List ℕ → Place → ℕ → WindowParsed
+windowRead order s p body =
+    let q : Place = readPlace order s p body in
+    record {
+      answer = parsedOf q;
+      base = unlessRefused q blankPane (paneTaken order s p .pane);
+      window = unlessRefused q blankWindow (ownTaken order s p body .window);
+    }
+
+-- the lists after it
+unfoldable pub readQuads : ByteOrder → List ℕ → Place → ℕ → List ℕ → List ℕ
+readQuads order s p body old = unlessRefused (readPlace order s p body) old (over (windowQuads order s (ownTaken order s p body)) old)
+
+unfoldable pub readFrames : ByteOrder → List ℕ → Place → ℕ → List ℕ → List ℕ
+readFrames order s p body old = unlessRefused (readPlace order s p body) old (over (windowFrames order s (ownTaken order s p body) body) old)
+
+-- 1, 2 and 3, of lent lists
+unfoldable pub readStart : ℕ → ℕ → List ℕ → List ℕ → Place
+readStart n body quads frames = listChecked (listChecked (bodyStart n body) 1 2040 (length quads)) 4 510 (length frames)
+
+-- THE BODY READ at B of s: 1, 2, 3, and then so; and the lent lists after it
+unfoldable pub windowParsed : ByteOrder → List ℕ → ℕ → List ℕ → List ℕ → WindowParsed
+windowParsed order s body quads frames = windowRead order s (readStart (length s) body quads frames) body
+
+unfoldable pub parsedQuads : ByteOrder → List ℕ → ℕ → List ℕ → List ℕ → List ℕ
+parsedQuads order s body quads frames = readQuads order s (readStart (length s) body quads frames) body quads
+
+unfoldable pub parsedFrames : ByteOrder → List ℕ → ℕ → List ℕ → List ℕ → List ℕ
+parsedFrames order s body quads frames = readFrames order s (readStart (length s) body quads frames) body frames
+
+-- ---- writing
+
+-- base, and what the window adds
+unfoldable pub bodyLength : ℕ → List ℕ → List ℕ → ℕ
+bodyLength body quads frames = 76 + windowLength body (length quads) (length frames)
+
+unfoldable pub encodeBody : ByteOrder → ℕ → Pane → WindowPane → List ℕ → List ℕ → List ℕ
+encodeBody order body b x quads frames = encodePane order b ++ encodeWindow order body x quads frames
+
+-- 1, 2, 9, 10, 11, 12 and 16 of a write into n bytes
+unfoldable pub windowWriteChecked : Pane → List ℕ → List ℕ → ℕ → ℕ → Place
+windowWriteChecked b quads frames n body =
+    let base : Place = reserveChecked (namesChecked (bodyStart n body) b) b in
+    endChecked (windowChecked base quads frames) (body + bodyLength body quads frames) n
+
+-- THE BODY WRITE at B of an output o of n bytes: its answer, and the output after it
+unfoldable pub windowWritten : Pane → List ℕ → List ℕ → ℕ → ℕ → Written
+windowWritten b quads frames n body = writtenOf (windowWriteChecked b quads frames n body) (body + bodyLength body quads frames)
+
+unfoldable pub windowOutput : ByteOrder → Pane → WindowPane → List ℕ → List ℕ → List ℕ → ℕ → List ℕ
+windowOutput order b x quads frames o body =
+    unlessRefused (windowWriteChecked b quads frames (length o) body) o (splice o body (encodeBody order body b x quads frames))

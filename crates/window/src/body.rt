@@ -1,0 +1,156 @@
+// The body calls of a window pane: any bytes are read or refused, any pane is written or refused.
+use crate::WindowPane;
+use crate::read::fill_window;
+use crate::read::measure_window;
+use crate::write::put_window;
+use crate::write::window_checked;
+use crate::write::window_length;
+use core::checks;
+use core::checks::Parsed;
+use core::checks::Written;
+use core::cursor::ByteOrder;
+use core::cursor::Place;
+use core::error::Refusal;
+use pane::Pane;
+use pane::checks::names_checked;
+use pane::checks::reserve_checked;
+use pane::checks::texts_checked;
+ghost use mathlib.Core.Path.{_≡_};
+ghost use Prim.Native.Nat.{_^_, _≤_, _<_};
+ghost use lib.ListN.{length};
+ghost use Rattle.core.specs.Bytes.{Room, Put};
+ghost use Rattle.pane.specs.Pane.{Sound};
+ghost use Rattle.window.specs.Write.{GoodWindow};
+ghost use Rattle.window.specs.Body.{Blank, windowRead, readQuads, readFrames, windowParsed, parsedQuads, parsedFrames, windowWriteChecked, bodyLength, encodeBody, windowWritten, windowOutput};
+
+// What a body read gives: its answer, and the pane, blank where it was refused.
+pub struct WindowParsed {
+    pub answer: Parsed,
+    pub base: Pane,
+    pub window: WindowPane,
+}
+
+fn refused(why: Refusal) -> WindowParsed
+    ensures { λ r. ⌜ Blank why r ⌝ }
+{
+    WindowParsed {
+        answer: Parsed::Refused(why),
+        base: pane::blank_pane(),
+        window: crate::blank_window(),
+    }
+}
+
+// The reads, check 7, and the lists filled only then.
+pub fn read(
+    order: ByteOrder,
+    data: &[u8],
+    p: Place,
+    place: usize,
+    quads: &mut [u32],
+    frames: &mut [u16],
+) -> WindowParsed
+    requires { ⌜ (8 ≤ place) × (place < 2 ^ 32) ⌝ }
+    requires { ⌜ (2040 ≤ length (now quads)) × (510 ≤ length (now frames)) ⌝ }
+    ensures { λ r. ⌜ r ≡ windowRead order (now («data» .entry)) p place ⌝ }
+    ensures { λ _. ⌜ now (quads .exit) ≡ readQuads order (now («data» .entry)) p place (now (quads .entry)) ⌝ }
+    ensures { λ _. ⌜ now (frames .exit) ≡ readFrames order (now («data» .entry)) p place (now (frames .entry)) ⌝ }
+{
+    let taken = pane::take_pane(order, data, p);
+    let base = taken.pane;
+    let p1 = taken.then;
+    let own = measure_window(order, data, p1, place);
+    let window = own.window;
+    let p2 = own.then;
+    let then = texts_checked(p2, base, place);
+    match then {
+        Place::At(c) => {
+            let end = c.pos;
+            fill_window(order, data, own, place, quads, frames);
+            WindowParsed {
+                answer: Parsed::Read { end },
+                base,
+                window,
+            }
+        }
+        Place::Refused(why) => refused(why),
+    }
+}
+
+// The window pane at a place: checks 1, 2, 3, the reads with 4, then 7. A refusal leaves the lists as they were.
+pub fn parse(
+    order: ByteOrder,
+    data: &[u8],
+    place: usize,
+    quads: &mut [u32],
+    frames: &mut [u16],
+) -> WindowParsed
+    ensures { λ r. ⌜ r ≡ windowParsed order (now («data» .entry)) place (now (quads .entry)) (now (frames .entry)) ⌝ }
+    ensures { λ _. ⌜ now (quads .exit) ≡ parsedQuads order (now («data» .entry)) place (now (quads .entry)) (now (frames .entry)) ⌝ }
+    ensures { λ _. ⌜ now (frames .exit) ≡ parsedFrames order (now («data» .entry)) place (now (quads .entry)) (now (frames .entry)) ⌝ }
+{
+    let p = checks::body_start(data.len(), place);
+    let p = checks::list_checked(p, 1, 2040, quads.len());
+    let p = checks::list_checked(p, 4, 510, frames.len());
+    match p {
+        Place::At(c) => read(order, data, Place::At(c), place, quads, frames),
+        Place::Refused(why) => refused(why),
+    }
+}
+
+// 1, 2, 9, 10, 11, 12 and 16
+fn write_checked(b: Pane, quads: &[u32], frames: &[u16], length: usize, place: usize) -> Place
+    ensures { λ r. ⌜ r ≡ windowWriteChecked b (now (quads .entry)) (now (frames .entry)) length place ⌝ }
+{
+    let p = checks::body_start(length, place);
+    let p = names_checked(p, b);
+    let p = reserve_checked(p, b);
+    let p = window_checked(p, quads, frames);
+    match p {
+        Place::At(c) => {
+            let own = window_length(place, quads.len(), frames.len());
+            checks::end_checked(Place::At(c), place, 76 + own, length)
+        }
+        Place::Refused(why) => Place::Refused(why),
+    }
+}
+
+// The base, and what the kind adds.
+pub fn put_body(
+    order: ByteOrder,
+    out: &mut [u8],
+    p: usize,
+    b: Pane,
+    x: WindowPane,
+    quads: &[u32],
+    frames: &[u16],
+) -> usize
+    requires { ⌜ Sound b × GoodWindow (now quads) (now frames) × (p < 2 ^ 32) ⌝ }
+    requires { ⌜ Room (now out) p (bodyLength p (now quads) (now frames)) ⌝ }
+    ensures { λ r. ⌜ Put (now (out .entry)) p (bodyLength p (now (quads .entry)) (now (frames .entry))) (encodeBody order p b x (now (quads .entry)) (now (frames .entry))) r (now (out .exit)) ⌝ }
+{
+    let q = pane::put_pane(order, out, p, b);
+    put_window(order, out, q, x, quads, frames, p)
+}
+
+// The window pane at a place: checks 1, 2, 9, 10, 11, 12, 16. A refusal leaves the output as it was; an accepted write answers its end, and changes no byte but its own.
+pub fn write(
+    order: ByteOrder,
+    b: Pane,
+    x: WindowPane,
+    quads: &[u32],
+    frames: &[u16],
+    out: &mut [u8],
+    place: usize,
+) -> Written
+    ensures { λ r. ⌜ r ≡ windowWritten b (now (quads .entry)) (now (frames .entry)) (length (now (out .entry))) place ⌝ }
+    ensures { λ _. ⌜ now (out .exit) ≡ windowOutput order b x (now (quads .entry)) (now (frames .entry)) (now (out .entry)) place ⌝ }
+{
+    let p = write_checked(b, quads, frames, out.len(), place);
+    match p {
+        Place::At(_) => {
+            let end = put_body(order, out, place, b, x, quads, frames);
+            Written::End(end)
+        }
+        Place::Refused(why) => Written::Refused(why),
+    }
+}

@@ -8,7 +8,7 @@ import random
 import struct
 from pathlib import Path
 
-KINDS = ["pan1", "pic1", "wnd1", "ali1"]
+KINDS = ["pan1", "pic1", "txt1", "wnd1", "ali1"]
 
 
 class No(Exception):

@@ -25,12 +25,14 @@ fn record_of(kind: Kind, reserve0: u8) -> Record {
     let mut base = blank.base;
     base.flag_ex.reserve0 = reserve0;
     let picture = blank.picture;
+    let text_box = blank.text_box;
     let window = blank.window;
     let alignment = blank.alignment;
     Record {
         kind,
         base,
         picture,
+        text_box,
         window,
         alignment,
     }

@@ -23,6 +23,9 @@ use Rattle.core.proofs.Back.{Holds, split, holds-left, holds-fits, cut, number-
 use Rattle.pane.proofs.Cleared.{Good, sound}
 use Rattle.pane.proofs.Back.{length-pane}
 use Rattle.picture.proofs.Back as picture-laws
+use Rattle.text_box.specs.Body as text-box
+use Rattle.text_box.proofs.Whole as text-box-laws
+use Rattle.text_box.proofs.Shift as text-box-shift
 use Rattle.window.proofs.Lengths as window-lengths
 use Rattle.window.proofs.Same as window-same
 use Rattle.alignment.proofs.Back as alignment-laws
@@ -33,9 +36,10 @@ use Rattle.strip.specs.Read.{readStart, sizeBad, headerTaken, finished, 
 use Rattle.strip.specs.Write.{bodyLength, encodeBody, sectionSize, sizeOf, section, sectionEnd}
 use Rattle.strip.specs.Strip.{Full}
 use Rattle.strip.specs.declared.kind.Kind.{Kind}
-use Rattle.strip.specs.declared.kind.Kind.the-variants.{Pan1, Pic1, Wnd1, Ali1}
+use Rattle.strip.specs.declared.kind.Kind.the-variants.{Pan1, Pic1, Txt1, Wnd1, Ali1}
 use Rattle.strip.specs.declared.kind.KindFound.{KindFound}
 use Rattle.strip.specs.declared.kind.KindFound.the-variants.{Is, Other}
+use Rattle.strip.specs.declared.record.Record.{Record}
 use Rattle.strip.specs.declared.read.Header.{Header}
 use Rattle.strip.specs.declared.read.SectionRead.{SectionRead}
 use Rattle.strip.specs.declared.read.Section.the-variants as Sections
@@ -48,13 +52,16 @@ length-letters : (k : Kind) → length (letterBytes k) ≡ 4
 unfolding letterBytes
 length-letters Pan1 = refl
 length-letters Pic1 = refl
+length-letters Txt1 = refl
 length-letters Wnd1 = refl
 length-letters Ali1 = refl
 
 length-body : (k : Kind) (order : ByteOrder) (body : ℕ) (w : Whole) → Typed w → Good (w .pane .base) → length (encodeBody k order body w) ≡ bodyLength k body w
-unfolding encodeBody
+unfolding encodeBody text-box.encodeBody
 length-body Pan1 order body w t g = length-pane order (w .pane .base) (sound _ g)
 length-body Pic1 order body w t g = picture-laws.length-body order (w .pane .base) (w .pane .picture) (w .lists .quads) (sound _ g) (t .pane .picture .colors .four)
+length-body Txt1 order body w t g =
+    rw (length-append, length-pane order (w .pane .base) (sound _ g), text-box-laws.length-text-box order body (w .pane .«text_box») (w .lists .units) (w .lists .lines) (w .label))
 length-body Wnd1 order body w t g =
     window-lengths.length-body order body (w .pane .base) (w .pane .window) (w .lists .quads) (w .lists .frames) (sound _ g) (t .pane .window .colors .four)
 length-body Ali1 order body w t g = alignment-laws.length-body order (w .pane .base) (w .pane .alignment) (sound _ g)
@@ -82,31 +89,34 @@ unfolding sectionSize
 size-some n = omega arith
 
 -- a section's bytes and size do not depend on its place, which is a multiple of 4
-body-shift : (k : Kind) (order : ByteOrder) (p body : ℕ) (w : Whole) → p % 4 ≡ 0 → encodeBody k order (p + body) w ≡ encodeBody k order body w
-unfolding encodeBody
-body-shift Pan1 order p body w h = refl
-body-shift Pic1 order p body w h = refl
-body-shift Wnd1 order p body w h = window-same.body-shift order p body (w .pane .base) (w .pane .window) (w .lists .quads) (w .lists .frames) h
-body-shift Ali1 order p body w h = refl
+body-shift : (k : Kind) (order : ByteOrder) (p body : ℕ) (w : Whole) → p % 4 ≡ 0 → 8 ≤ body → encodeBody k order (p + body) w ≡ encodeBody k order body w
+unfolding encodeBody text-box.encodeBody
+body-shift Pan1 order p body w h l = refl
+body-shift Pic1 order p body w h l = refl
+body-shift Txt1 order p body w h l = rw (text-box-shift.text-box-shift order p body (w .pane .«text_box») (w .lists .units) (w .lists .lines) (w .label) h l)
+body-shift Wnd1 order p body w h l = window-same.body-shift order p body (w .pane .base) (w .pane .window) (w .lists .quads) (w .lists .frames) h
+body-shift Ali1 order p body w h l = refl
 
-length-shift : (k : Kind) (p body : ℕ) (w : Whole) → p % 4 ≡ 0 → bodyLength k (p + body) w ≡ bodyLength k body w
-length-shift Pan1 p body w h = refl
-length-shift Pic1 p body w h = refl
-length-shift Wnd1 p body w h = window-same.body-length-shift p body (w .lists .quads) (w .lists .frames) h
-length-shift Ali1 p body w h = refl
+length-shift : (k : Kind) (p body : ℕ) (w : Whole) → p % 4 ≡ 0 → 8 ≤ body → bodyLength k (p + body) w ≡ bodyLength k body w
+length-shift Pan1 p body w h l = refl
+length-shift Pic1 p body w h l = refl
+length-shift Txt1 p body w h l = ap (λ (x : ℕ). 76 + x) (text-box-shift.length-shift p body (w .pane .«text_box») (w .lists .units) (w .lists .lines) (w .label) h l)
+length-shift Wnd1 p body w h l = window-same.body-length-shift p body (w .lists .quads) (w .lists .frames) h
+length-shift Ali1 p body w h l = refl
 
 pub size-shift : (p : ℕ) (w : Whole) → p % 4 ≡ 0 → sizeOf p w ≡ sizeOf 0 w
-size-shift p w h = ap sectionSize (length-shift (w .pane .kind) p 8 w h)
+size-shift p w h = ap sectionSize (length-shift (w .pane .kind) p 8 w h (lit≤ tt))
 
 pub section-shift : (order : ByteOrder) (p : ℕ) (w : Whole) → p % 4 ≡ 0 → section order p w ≡ section order 0 w
 unfolding section
-section-shift order p w h = rw (length-shift (w .pane .kind) p 8 w h, body-shift (w .pane .kind) order p 8 w h)
+section-shift order p w h = rw (length-shift (w .pane .kind) p 8 w h (lit≤ tt), body-shift (w .pane .kind) order p 8 w h (lit≤ tt))
 
 -- ---- the parts of a section
 
 letters-fit : (k : Kind) → lettersOf k < 256 ^ 4
 letters-fit Pan1 = lit≤ tt
 letters-fit Pic1 = lit≤ tt
+letters-fit Txt1 = lit≤ tt
 letters-fit Wnd1 = lit≤ tt
 letters-fit Ali1 = lit≤ tt
 
@@ -114,6 +124,7 @@ letters-kind : (k : Kind) → kindOf (lettersOf k) ≡ Is k
 unfolding kindOf
 letters-kind Pan1 = refl
 letters-kind Pic1 = refl
+letters-kind Txt1 = refl
 letters-kind Wnd1 = refl
 letters-kind Ali1 = refl
 
@@ -131,11 +142,15 @@ header-back {s} order p k z a b d e h₁ h₂ =
     let n = rw (advanced-zero (start p)) at (number-at (start p) Little 0 4 (lettersOf k) (letters-fit k) h) in
     rw (n, number-at (start p) order 4 4 z e h₂, size-good (length s) p z a b d)
 
+-- the record that is read of a section that was written at p
+abbrev pub readAs : ℕ → Whole → Record
+readAs p w = readRecord (w .pane .kind) (advanced (start p) 8) (p + 8) w
+
 -- what is read of a section that was written, and the lists after it
 pub record SectionBack (order : ByteOrder) (s : List ℕ) (p : ℕ) (l : Lists) (w : Whole) : Type 0 where
   pub end : ℕ
-  pub read : _≡_ {A = SectionRead} (readSection order s p l) (record { answer = Sections.Pane end (sectionEnd p w); «record» = readRecord (w .pane .kind) w })
-  pub own : SameOwn (w .pane .kind) (readWhole s (readRecord (w .pane .kind) w) (listsAfter order s p l)) w
+  pub read : _≡_ {A = SectionRead} (readSection order s p l) (record { answer = Sections.Pane end (sectionEnd p w); «record» = readAs p w })
+  pub own : SameOwn (w .pane .kind) (readWhole s (readAs p w) (listsAfter order s p l)) w
 
 -- its parts
 record Parts (order : ByteOrder) (s : List ℕ) (p : ℕ) (w : Whole) : Type 0 where

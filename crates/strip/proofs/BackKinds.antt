@@ -13,6 +13,8 @@ use Rattle.core.specs.declared.cursor.Place.{Place}
 use Rattle.core.specs.declared.cursor.Place.the-variants.{At}
 use Rattle.core.specs.declared.checks.Parsed.the-variants as Parseds
 use Rattle.core.proofs.Cursors.{pos-advanced, advanced-more}
+use Rattle.core.specs.Lists.{numbersAt}
+use Rattle.core.proofs.Lists.{length-numbers}
 use Rattle.core.proofs.Back.{Holds, split, Fit}
 use Rattle.pane.specs.Pane.{encodePane}
 use Rattle.pane.specs.Body.{paneRead}
@@ -22,6 +24,20 @@ use Rattle.picture.specs.Picture.{blankPicture, quadsOf, pictureQuads, pictureT
 use Rattle.picture.specs.Body as picture
 use Rattle.picture.specs.declared.PicturePane.{PicturePane}
 use Rattle.picture.proofs.Back as picture-laws
+use Rattle.text_box.specs.TextBox.{blankTextBox}
+use Rattle.text_box.specs.Parts.{unitsOf, linesOf, textBoxUnits, textBoxLines}
+use Rattle.text_box.specs.Caption.{labelOf}
+use Rattle.text_box.specs.Written.{encodeTextBox}
+use Rattle.text_box.specs.Body as text-box
+use Rattle.text_box.specs.Same as text-box-same
+use Rattle.text_box.specs.declared.Text.{Text}
+use Rattle.text_box.specs.declared.Text.the-variants as text
+use Rattle.text_box.specs.declared.LineTable.{LineTable}
+use Rattle.text_box.specs.declared.LineTable.the-variants as line
+use Rattle.text_box.specs.declared.TextBoxPane.{TextBoxPane}
+use Rattle.text_box.specs.declared.TextBoxTaken.{TextBoxTaken}
+use Rattle.text_box.proofs.Columns.{length-pairs}
+use Rattle.text_box.proofs.Equal as text-box-laws
 use Rattle.window.specs.Window.{blankWindow, windowTaken, windowQuads, windowFrames}
 use Rattle.window.specs.Write.{encodeWindow}
 use Rattle.window.specs.Body as window
@@ -32,46 +48,58 @@ use Rattle.alignment.specs.Alignment.{blankAlignment, encodeAlignment}
 use Rattle.alignment.specs.Body as alignment
 use Rattle.alignment.specs.declared.AlignmentPane.{AlignmentPane}
 use Rattle.alignment.proofs.Back as alignment-laws
-use Rattle.strip.specs.Whole.{Lists, Whole, SameOwn, readWhole}
+use Rattle.strip.specs.Whole.{Lists, Whole, SameOwn, readWhole, unitNumbers, lineNumbers}
 use Rattle.strip.specs.Typed.{Typed}
 use Rattle.strip.specs.Read.{bodyRead, bodyLists}
-use Rattle.strip.specs.Write.{GoodOwn, encodeBody}
+use Rattle.strip.specs.Write.{encodeBody}
 use Rattle.strip.specs.declared.kind.Kind.{Kind}
-use Rattle.strip.specs.declared.kind.Kind.the-variants.{Pan1, Pic1, Wnd1, Ali1}
+use Rattle.strip.specs.declared.kind.Kind.the-variants.{Pan1, Pic1, Txt1, Wnd1, Ali1}
 use Rattle.strip.specs.declared.record.Record.{Record}
 use Rattle.strip.specs.declared.read.BodyRead.{BodyRead}
-use Rattle.strip.proofs.Below.{below-fit}
+use Rattle.strip.proofs.Below.{below-fit, below-at}
+use Rattle.strip.proofs.Cleared.{OwnGood}
 
 -- what the types and a write's checks say of a record with its lists and label
 pub record GoodWhole (w : Whole) : Type 0 where
   pub typed : Typed w
   pub good : Good (w .pane .base)
-  pub own : GoodOwn (w .pane .kind) w
+  pub own : OwnGood (w .pane .kind) w
 
--- what reading a record that was written gives: the base with zeros after its names, counts of the lists, and blank what the kind lacks
+-- what reading a record that was written gives, its body at B and the cursor there: the base with zeros after its names, counts of the lists, and blank what the kind lacks
 abbrev pub ownPicture : Kind → Whole → PicturePane
 ownPicture Pan1 w = blankPicture
 ownPicture Pic1 w = picture-laws.readBackPicture (w .pane .picture) (w .lists .quads)
+ownPicture Txt1 w = blankPicture
 ownPicture Wnd1 w = blankPicture
 ownPicture Ali1 w = blankPicture
+
+abbrev pub ownTextBox : Kind → Cursor → ℕ → Whole → TextBoxPane
+ownTextBox Pan1 c body w = blankTextBox
+ownTextBox Pic1 c body w = blankTextBox
+ownTextBox Txt1 c body w = text-box-laws.readBack body (advanced c 76) (w .pane .«text_box») (w .lists .units) (w .lists .lines) (w .label) .«text_box»
+ownTextBox Wnd1 c body w = blankTextBox
+ownTextBox Ali1 c body w = blankTextBox
 
 abbrev pub ownWindow : Kind → Whole → WindowPane
 ownWindow Pan1 w = blankWindow
 ownWindow Pic1 w = blankWindow
+ownWindow Txt1 w = blankWindow
 ownWindow Wnd1 w = window-laws.readBackWindow (w .pane .window) (w .lists .quads) (w .lists .frames)
 ownWindow Ali1 w = blankWindow
 
 abbrev pub ownAlignment : Kind → Whole → AlignmentPane
 ownAlignment Pan1 w = blankAlignment
 ownAlignment Pic1 w = blankAlignment
+ownAlignment Txt1 w = blankAlignment
 ownAlignment Wnd1 w = blankAlignment
 ownAlignment Ali1 w = w .pane .alignment
 
-unfoldable pub readRecord : Kind → Whole → Record
-readRecord k w = record {
+unfoldable pub readRecord : Kind → Cursor → ℕ → Whole → Record
+readRecord k c body w = record {
   kind = k;
   base = readBack (w .pane .base);
   picture = ownPicture k w;
+  «text_box» = ownTextBox k c body w;
   window = ownWindow k w;
   alignment = ownAlignment k w;
 }
@@ -79,12 +107,24 @@ readRecord k w = record {
 -- a body at B that was written as that of w is read so, and its own part is equal to that of w
 pub record BodyBack (order : ByteOrder) (s : List ℕ) (c : Cursor) (body : ℕ) (k : Kind) (w : Whole) : Type 0 where
   pub end : ℕ
-  pub read : _≡_ {A = BodyRead} (bodyRead order k s (At c) body) (record { answer = Parseds.Read end; «record» = readRecord k w })
-  pub own : (l : Lists) → SameOwn k (readWhole s (readRecord k w) (bodyLists order k s (At c) body l)) w
+  pub read : _≡_ {A = BodyRead} (bodyRead order k s (At c) body) (record { answer = Parseds.Read end; «record» = readRecord k c body w })
+  pub own : (l : Lists) → SameOwn k (readWhole s (readRecord k c body w) (bodyLists order k s (At c) body l)) w
 
 -- a list over the front of another
 front : (n : ℕ) (l old : List ℕ) → n ≡ length l → take n (over l old) ≡ l
 front n l old h = rw h (take-append-seam l (drop (length l) old))
+
+-- a read fills as many numbers as its record counts
+units-count : (order : ByteOrder) (s : List ℕ) (x : Text) (long at : ℕ) → unitNumbers x long ≡ length (unitsOf x (numbersAt order 2 (long / 2) s at))
+units-count order s text.Absent long at = refl
+units-count order s text.Present long at = sym (length-numbers order 2 (long / 2) s at)
+
+lines-count : (order : ByteOrder) (s : List ℕ) (x : LineTable) (at : ℕ) → lineNumbers x ≡ length (linesOf order s x at)
+lines-count order s line.Absent at = refl
+lines-count order s (line.Present count) at =
+    let a = length-numbers order 4 count s (at + 1) in
+    let b = length-numbers order 4 count s (at + 1 + 4 * count) in
+    sym (length-pairs _ _ (a ∙ sym b) ∙ ap (λ (n : ℕ). 2 * n) a)
 
 module _ {s : List ℕ} (order : ByteOrder) (c : Cursor) (body : ℕ) (w : Whole) (t : Typed w) (g : Good (w .pane .base)) where
   -- ---- pan1
@@ -118,7 +158,7 @@ module _ {s : List ℕ} (order : ByteOrder) (c : Cursor) (body : ℕ) (w : Whole
 
   -- ---- pic1
 
-  module _ (o : GoodOwn Pic1 w) (h : Holds s (c .pos) (encodeBody Pic1 order body w)) where
+  module _ (o : OwnGood Pic1 w) (h : Holds s (c .pos) (encodeBody Pic1 order body w)) where
     pic-base : Holds s (c .pos) (encodePane order (w .pane .base)) × Holds s (advanced c 76 .pos) (encodePicture order (w .pane .picture) (w .lists .quads))
     unfolding encodeBody picture.encodeBody
     pic-base =
@@ -129,7 +169,7 @@ module _ {s : List ℕ} (order : ByteOrder) (c : Cursor) (body : ℕ) (w : Whole
     pic-fit = below-fit 4 (w .lists .quads) (t .quads)
 
     pic-quads : (old : List ℕ) → picture.quadsRead order s (At c) body old ≡ over (w .lists .quads) old
-    unfolding picture.quadsRead GoodOwn pictureQuads unlessRefused
+    unfolding picture.quadsRead OwnGood pictureQuads unlessRefused
     pic-quads old =
         let x = w .pane .picture in
         let q = w .lists .quads in
@@ -142,7 +182,7 @@ module _ {s : List ℕ} (order : ByteOrder) (c : Cursor) (body : ℕ) (w : Whole
         )
 
     pic-back : BodyBack order s c body Pic1 w
-    unfolding bodyRead bodyLists readRecord SameOwn GoodOwn picture.pictureRead parsedOf unlessRefused picture-laws.readBackPicture
+    unfolding bodyRead bodyLists readRecord SameOwn OwnGood picture.pictureRead parsedOf unlessRefused picture-laws.readBackPicture
     pic-back =
         let x = w .pane .picture in
         let q = w .lists .quads in
@@ -160,7 +200,7 @@ module _ {s : List ℕ} (order : ByteOrder) (c : Cursor) (body : ℕ) (w : Whole
 
   -- ---- wnd1
 
-  module _ (o : GoodOwn Wnd1 w) (low : 8 ≤ body) (here : c .pos ≡ body) (h : Holds s (c .pos) (encodeBody Wnd1 order body w)) where
+  module _ (o : OwnGood Wnd1 w) (low : 8 ≤ body) (here : c .pos ≡ body) (h : Holds s (c .pos) (encodeBody Wnd1 order body w)) where
     wnd-base : Holds s (c .pos) (encodePane order (w .pane .base)) × Holds s (advanced c 76 .pos) (encodeWindow order body (w .pane .window) (w .lists .quads) (w .lists .frames))
     unfolding encodeBody window.encodeBody
     wnd-base =
@@ -177,7 +217,7 @@ module _ {s : List ℕ} (order : ByteOrder) (c : Cursor) (body : ℕ) (w : Whole
     wnd-frames-fit = below-fit 2 (w .lists .frames) (t .frames)
 
     wnd-place : window.readPlace order s (At c) body ≡ At (advanced (advanced c 76) 28)
-    unfolding window.readPlace window.ownTaken GoodOwn
+    unfolding window.readPlace window.ownTaken OwnGood
     wnd-place =
         let x = w .pane .window in
         let q = w .lists .quads in
@@ -189,7 +229,7 @@ module _ {s : List ℕ} (order : ByteOrder) (c : Cursor) (body : ℕ) (w : Whole
         )
 
     wnd-quads : (old : List ℕ) → window.readQuads order s (At c) body old ≡ over (w .lists .quads) old
-    unfolding window.readQuads window.ownTaken GoodOwn unlessRefused
+    unfolding window.readQuads window.ownTaken OwnGood unlessRefused
     wnd-quads old =
         rw (
           wnd-place,
@@ -198,7 +238,7 @@ module _ {s : List ℕ} (order : ByteOrder) (c : Cursor) (body : ℕ) (w : Whole
         )
 
     wnd-frames : (old : List ℕ) → window.readFrames order s (At c) body old ≡ over (w .lists .frames) old
-    unfolding window.readFrames window.ownTaken GoodOwn unlessRefused
+    unfolding window.readFrames window.ownTaken OwnGood unlessRefused
     wnd-frames old =
         rw (
           wnd-place,
@@ -207,7 +247,7 @@ module _ {s : List ℕ} (order : ByteOrder) (c : Cursor) (body : ℕ) (w : Whole
         )
 
     wnd-back : BodyBack order s c body Wnd1 w
-    unfolding bodyRead bodyLists readRecord SameOwn GoodOwn window.windowRead window.ownTaken parsedOf unlessRefused window-laws.readBackWindow readBackContent
+    unfolding bodyRead bodyLists readRecord SameOwn OwnGood window.windowRead window.ownTaken parsedOf unlessRefused window-laws.readBackWindow readBackContent
     wnd-back =
         let x = w .pane .window in
         let q = w .lists .quads in
@@ -231,10 +271,76 @@ module _ {s : List ℕ} (order : ByteOrder) (c : Cursor) (body : ℕ) (w : Whole
               (window-laws.read-same x q f);
         }
 
+  -- ---- txt1
+
+  module _ (o : OwnGood Txt1 w) (low : 8 ≤ body) (here : c .pos ≡ body) (h : Holds s (c .pos) (encodeBody Txt1 order body w)) where
+    txt-base : Holds s (c .pos) (encodePane order (w .pane .base)) × Holds s (advanced c 76 .pos) (encodeTextBox order body (w .pane .«text_box») (w .lists .units) (w .lists .lines) (w .label))
+    unfolding encodeBody text-box.encodeBody
+    txt-base =
+        let (h₁, h₂) =
+        split (encodePane order (w .pane .base)) (encodeTextBox order body (w .pane .«text_box») (w .lists .units) (w .lists .lines) (w .label)) 76 (length-pane order (w .pane .base) (sound _ g)) h in
+        (h₁, rw pos-advanced h₂)
+
+    txt-here : advanced c 76 .pos ≡ body + 76
+    txt-here = pos-advanced c 76 ∙ ap (λ (n : ℕ). n + 76) here
+
+    abbrev Read : TextBoxTaken
+    Read = text-box-laws.readBack body (advanced c 76) (w .pane .«text_box») (w .lists .units) (w .lists .lines) (w .label)
+
+    txt-own : text-box.textBoxOwn order s (At c) body ≡ Read
+    unfolding text-box.textBoxOwn OwnGood
+    txt-own =
+        rw (pane-back c order (w .pane .base) (t .pane .base) g (txt-base .0))
+        (text-box-laws.text-box-back s (advanced c 76) order body txt-here low (w .pane .«text_box») (w .lists .units) (w .lists .lines) (w .label)
+        (t .pane .«text_box») o (below-at 2 _ (t .units)) (below-at 4 _ (t .lines)) (txt-base .1))
+
+    txt-same : text-box-same.SameTextBox
+        (record { box = Read .«text_box»; units = textBoxUnits order s Read; lines = textBoxLines order s Read; label = labelOf s (Read .«text_box» .label) })
+        (record { box = w .pane .«text_box»; units = w .lists .units; lines = w .lists .lines; label = w .label })
+    unfolding OwnGood
+    txt-same =
+        text-box-laws.read-same s (advanced c 76) order body txt-here low (w .pane .«text_box») (w .lists .units) (w .lists .lines) (w .label)
+        (t .pane .«text_box») o (below-at 2 _ (t .units)) (below-at 4 _ (t .lines)) (txt-base .1)
+
+    txt-then : Read .then ≡ At (advanced (advanced c 76) 84)
+    unfolding text-box-laws.readBack
+    txt-then = refl
+
+    txt-end : text-box.textBoxEnd order s (At c) body ≡ At (advanced (advanced c 76) 84)
+    unfolding text-box.textBoxEnd OwnGood
+    txt-end =
+        rw (txt-own, pane-back c order (w .pane .base) (t .pane .base) g (txt-base .0), txt-then, texts-back (w .pane .base) g (advanced (advanced c 76) 84) body)
+        (text-box-laws.label-passes s (advanced c 76) (advanced (advanced c 76) 84) order body txt-here low (w .pane .«text_box») (w .lists .units) (w .lists .lines) (w .label)
+        (t .pane .«text_box») o (below-at 2 _ (t .units)) (below-at 4 _ (t .lines)) (txt-base .1))
+
+    txt-units : (old : List ℕ) → text-box.unitsAfter order s (At c) body old ≡ over (textBoxUnits order s Read) old
+    unfolding text-box.unitsAfter unlessRefused
+    txt-units old = rw (txt-end, txt-own)
+
+    txt-lines : (old : List ℕ) → text-box.linesAfter order s (At c) body old ≡ over (textBoxLines order s Read) old
+    unfolding text-box.linesAfter unlessRefused
+    txt-lines old = rw (txt-end, txt-own)
+
+    txt-back : BodyBack order s c body Txt1 w
+    unfolding bodyRead bodyLists readRecord SameOwn text-box.textBoxRead parsedOf unlessRefused
+    txt-back = record {
+      end = advanced (advanced c 76) 84 .pos;
+      read = rw (txt-end, txt-own, pane-back c order (w .pane .base) (t .pane .base) g (txt-base .0));
+      own = λ l.
+          rw (
+            txt-units (l .units),
+            txt-lines (l .lines),
+            front _ (textBoxUnits order s Read) (l .units) (units-count order s (Read .«text_box» .text) (Read .«text_box» .«text_length») (Read .«text_place»)),
+            front _ (textBoxLines order s Read) (l .lines) (lines-count order s (Read .«text_box» .«line_table») (Read .«lines_place»)),
+          )
+          txt-same;
+    }
+
 -- every kind
-pub body-back : {s : List ℕ} (order : ByteOrder) (c : Cursor) (body : ℕ) (k : Kind) (w : Whole) → Typed w → Good (w .pane .base) → GoodOwn k w
+pub body-back : {s : List ℕ} (order : ByteOrder) (c : Cursor) (body : ℕ) (k : Kind) (w : Whole) → Typed w → Good (w .pane .base) → OwnGood k w
     → 8 ≤ body → c .pos ≡ body → Holds s (c .pos) (encodeBody k order body w) → BodyBack order s c body k w
 body-back order c body Pan1 w t g o low here h = pan-back order c body w t g h
 body-back order c body Pic1 w t g o low here h = pic-back order c body w t g o h
+body-back order c body Txt1 w t g o low here h = txt-back order c body w t g o low here h
 body-back order c body Wnd1 w t g o low here h = wnd-back order c body w t g o low here h
 body-back order c body Ali1 w t g o low here h = ali-back order c body w t g h

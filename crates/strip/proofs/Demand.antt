@@ -30,7 +30,7 @@ use Rattle.strip.proofs.Cleared.{Accepts, write-cleared}
 use Rattle.strip.proofs.Same.{section-same, same-both}
 use Rattle.strip.proofs.BackKinds.{GoodWhole, readRecord}
 use Rattle.pane.proofs.Same as pane
-use Rattle.strip.proofs.Back.{SectionBack, length-section, size-whole, size-shift, section-shift, section-back, section-end}
+use Rattle.strip.proofs.Back.{SectionBack, readAs, length-section, size-whole, size-shift, section-shift, section-back, section-end}
 
 -- ---- what an accepted write and a refused one say
 
@@ -84,7 +84,7 @@ take-splice o p xs h =
 
 -- what is read of a section is equal to what was written
 section-is : {order : ByteOrder} {s : List ℕ} {p : ℕ} {l : Lists} {w : Whole} → SectionBack order s p l w
-    → Same (readWhole s (readRecord (w .pane .kind) w) (listsAfter order s p l)) w
+    → Same (readWhole s (readAs p w) (listsAfter order s p l)) w
 unfolding readRecord
 section-is {w = w} e = record { kind = refl; base = pane.read-same (w .pane .base); own = e .own }
 

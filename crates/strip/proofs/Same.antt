@@ -5,22 +5,26 @@ use Prim.Native.Nat.{ℕ, _+_}
 use lib.ListN.{replicate}
 use Rattle.core.specs.Bytes.{bytesOf, padding}
 use Rattle.core.specs.declared.cursor.ByteOrder.{ByteOrder}
+use Rattle.core.specs.declared.cursor.ByteOrder.the-variants.{Little}
 use Rattle.pane.proofs.Same as pane
 use Rattle.picture.specs.Body as picture-body
 use Rattle.picture.proofs.Same as picture
+use Rattle.text_box.specs.Body as text-box-body
+use Rattle.text_box.proofs.Same as text-box
 use Rattle.window.specs.Body as window-body
 use Rattle.window.proofs.Same as window
 use Rattle.alignment.specs.Body as alignment
 use Rattle.strip.specs.Kinds.{letterBytes}
-use Rattle.strip.specs.Whole.{Whole, Same, SameOwn}
+use Rattle.strip.specs.Whole.{Whole, Same, SameOwn, boxOf}
 use Rattle.strip.specs.Write.{bodyLength, encodeBody, sectionSize, section}
 use Rattle.strip.specs.declared.kind.Kind.{Kind}
-use Rattle.strip.specs.declared.kind.Kind.the-variants.{Pan1, Pic1, Wnd1, Ali1}
+use Rattle.strip.specs.declared.kind.Kind.the-variants.{Pan1, Pic1, Txt1, Wnd1, Ali1}
 
 own-both : (k : Kind) (x a b : Whole) → SameOwn k x a → SameOwn k x b → SameOwn k a b
 unfolding SameOwn
 own-both Pan1 x a b h i = tt
 own-both Pic1 x a b h i = picture.same-both _ _ _ _ _ _ h i
+own-both Txt1 x a b h i = text-box.same-both (boxOf x) (boxOf a) (boxOf b) h i
 own-both Wnd1 x a b h i = window.same-both _ _ _ _ _ _ _ _ _ h i
 own-both Ali1 x a b h i = sym h ∙ i
 
@@ -33,9 +37,11 @@ same-both x a b h i = record {
 
 -- equal ones have the same bytes
 body-same : (k : Kind) (order : ByteOrder) (body : ℕ) (a b : Whole) → Same a b → SameOwn k a b → encodeBody k order body a ≡ encodeBody k order body b
-unfolding SameOwn encodeBody picture-body.encodeBody window-body.encodeBody alignment.encodeBody
+unfolding SameOwn encodeBody picture-body.encodeBody text-box-body.encodeBody window-body.encodeBody alignment.encodeBody
 body-same Pan1 order body a b h i = pane.encode-same order (a .pane .base) (b .pane .base) (h .base)
 body-same Pic1 order body a b h i = rw (pane.encode-same order (a .pane .base) (b .pane .base) (h .base), picture.encode-same _ _ _ _ i order)
+body-same Txt1 order body a b h i =
+    rw (pane.encode-same order (a .pane .base) (b .pane .base) (h .base), text-box.encode-same order (boxOf a) (boxOf b) i body)
 body-same Wnd1 order body a b h i = rw (pane.encode-same order (a .pane .base) (b .pane .base) (h .base), window.encode-same _ _ _ _ _ _ i order body)
 body-same Ali1 order body a b h i = rw (pane.encode-same order (a .pane .base) (b .pane .base) (h .base), i)
 
@@ -43,6 +49,7 @@ length-same : (k : Kind) (body : ℕ) (a b : Whole) → SameOwn k a b → bodyLe
 unfolding SameOwn picture-body.bodyLength window-body.bodyLength
 length-same Pan1 body a b i = refl
 length-same Pic1 body a b i = rw (picture.length-same _ _ _ _ i)
+length-same Txt1 body a b i = rw (text-box.length-same Little (boxOf a) (boxOf b) i body)
 length-same Wnd1 body a b i = rw (window.length-same _ _ _ _ _ _ i body)
 length-same Ali1 body a b i = refl
 

@@ -1,7 +1,6 @@
 -- The steps of the section read and the section write, as the code takes them.
 use mathlib.Core.Path.{_≡_, refl, sym, ap, _∙_, subst}
 use Prim.Native.Nat.{ℕ, _+_, _^_, _≤_, _<_}
-use mathlib.Core.Logic.{_⊎_, inl, inr}
 use native.Mathlib.Omega.{arith}
 use mathlib.Core.List.{List, [], _∷_, _++_}
 use lib.ListN.{length, replicate}
@@ -9,7 +8,7 @@ use lib.Dec.{eqb}
 use borrow.Author.Tests.{eq-eqb, ne-eqb}
 use Rattle.core.specs.Bytes.{le, bytesOf, padding, Put}
 use Rattle.core.specs.Taken.{start, stopIf, numberTaken}
-use Rattle.core.specs.Checks.{sectionStart, endChecked, unlessRefused}
+use Rattle.core.specs.Checks.{endChecked, unlessRefused}
 use Rattle.core.specs.declared.error.Refusal.{Refusal}
 use Rattle.core.specs.declared.cursor.ByteOrder.{ByteOrder}
 use Rattle.core.specs.declared.cursor.ByteOrder.the-variants.{Little}
@@ -17,29 +16,29 @@ use Rattle.core.specs.declared.cursor.Cursor.{Cursor}
 use Rattle.core.specs.declared.cursor.Place.{Place}
 use Rattle.core.specs.declared.cursor.Place.the-variants.{At, Refused}
 use Rattle.core.proofs.Runs.{cleared}
-use Rattle.core.proofs.Checked.{SectionOk, section-started, end-stays}
 use Rattle.pane.specs.Pane.{encodePane}
-use Rattle.pane.specs.Checks.{namesChecked, reserveChecked}
-use Rattle.pane.proofs.Cleared.{base-cleared}
-use Rattle.picture.specs.Picture.{pictureChecked, GoodPicture}
+use Rattle.picture.specs.Picture.{GoodPicture}
 use Rattle.picture.proofs.Cleared.{body-short}
 use Rattle.picture.specs.Body as picture
-use Rattle.window.specs.Write.{windowChecked, GoodWindow, windowLength, contentPadding}
+use Rattle.text_box.specs.Written.{Small, textBoxLength}
+use Rattle.text_box.specs.Body as text-box
+use Rattle.window.specs.Write.{GoodWindow, windowLength, contentPadding}
 use Rattle.window.specs.Body as window
 use Rattle.alignment.specs.Body as alignment
 use Rattle.strip.specs.Kinds.{letterBytes, lettersOf, kindOf}
 use Rattle.strip.specs.Whole.{Lists, lists, Whole}
 use Rattle.strip.specs.Read.{readStart, sizeBad, headerTaken, bodyRead, bodyLists, finished, readBody, byKind, listsByKind, orRefused, refusedWith, endedWith, passedWith, readAt, listsAt, readSection, listsAfter}
-use Rattle.strip.specs.Write.{ownChecked, GoodOwn, bodyLength, encodeBody, sectionSize, sizeOf, section, sectionEnd, writeChecked}
+use Rattle.strip.specs.Write.{GoodOwn, ownLengthChecked, ownNameChecked, ownChecked, bodyLength, encodeBody, sectionSize, sizeOf, section, sectionEnd}
 use Rattle.strip.specs.declared.kind.Kind.{Kind}
-use Rattle.strip.specs.declared.kind.Kind.the-variants.{Pan1, Pic1, Wnd1, Ali1}
+use Rattle.strip.specs.declared.kind.Kind.the-variants.{Pan1, Pic1, Txt1, Wnd1, Ali1}
 use Rattle.strip.specs.declared.kind.KindFound.{KindFound}
 use Rattle.strip.specs.declared.kind.KindFound.the-variants.{Is, Other}
+use Rattle.strip.specs.declared.record.Record.{Record}
 use Rattle.strip.specs.declared.read.Header.{Header}
 use Rattle.strip.specs.declared.read.BodyRead.{BodyRead}
 use Rattle.strip.specs.declared.read.SectionRead.{SectionRead}
 use Rattle.strip.specs.declared.read.Section.the-variants as Sections
-use Rattle.strip.proofs.Cleared.{own-cleared, size-ok, size-bound}
+use Rattle.strip.proofs.Cleared.{size-ok}
 
 -- ---- the section read
 
@@ -98,6 +97,11 @@ module _ (order : ByteOrder) (s : List ℕ) (p : Place) (body : ℕ) (k : Kind) 
   unfolding bodyLists
   kind-pic e h q u n f q′ g = rw (e, g) (h, refl)
 
+  pub kind-txt : k ≡ Txt1 → b ≡ bodyRead order Txt1 s p body → (q u n f u′ n′ : List ℕ) → u′ ≡ text-box.unitsAfter order s p body u → n′ ≡ text-box.linesAfter order s p body n
+      → (b ≡ bodyRead order k s p body) × (lists q u′ n′ f ≡ bodyLists order k s p body (lists q u n f))
+  unfolding bodyLists
+  kind-txt e h q u n f u′ n′ g i = rw (e, g, i) (h, refl)
+
   pub kind-wnd : k ≡ Wnd1 → b ≡ bodyRead order Wnd1 s p body → (q u n f q′ f′ : List ℕ) → q′ ≡ window.readQuads order s p body q → f′ ≡ window.readFrames order s p body f
       → (b ≡ bodyRead order k s p body) × (lists q′ u n f′ ≡ bodyLists order k s p body (lists q u n f))
   unfolding bodyLists
@@ -105,41 +109,25 @@ module _ (order : ByteOrder) (s : List ℕ) (p : Place) (body : ℕ) (k : Kind) 
 
 -- ---- the section write
 
--- the kind's own checks, as the code makes them
-module _ (k : Kind) (p : Place) (w : Whole) where
-  pub own-none : (k ≡ Pan1) ⊎ (k ≡ Ali1) → p ≡ ownChecked k p w
-  unfolding ownChecked
-  own-none (inl e) = rw e
-  own-none (inr e) = rw e
+-- the checks by kind, at the kind that there is
+pub length-by : (k : Kind) (p : Place) (r : Record) (label : List ℕ) (j : Kind) → k ≡ j → (q : Place) → q ≡ ownLengthChecked j p r label → q ≡ ownLengthChecked k p r label
+length-by k p r label j e q h = subst (λ (i : Kind). q ≡ ownLengthChecked i p r label) (sym e) h
 
-  pub own-picture : k ≡ Pic1 → pictureChecked p (w .lists .quads) ≡ ownChecked k p w
-  unfolding ownChecked
-  own-picture e = rw e
+pub name-by : (k : Kind) (p : Place) (r : Record) (label : List ℕ) (j : Kind) → k ≡ j → (q : Place) → q ≡ ownNameChecked j p r label → q ≡ ownNameChecked k p r label
+name-by k p r label j e q h = subst (λ (i : Kind). q ≡ ownNameChecked i p r label) (sym e) h
 
-  pub own-window : k ≡ Wnd1 → windowChecked p (w .lists .quads) (w .lists .frames) ≡ ownChecked k p w
-  unfolding ownChecked
-  own-window e = rw e
+pub own-by : (k : Kind) (p : Place) (w : Whole) (j : Kind) → k ≡ j → (q : Place) → q ≡ ownChecked j p w → q ≡ ownChecked k p w
+own-by k p w j e q h = subst (λ (i : Kind). q ≡ ownChecked i p w) (sym e) h
 
-module _ (w : Whole) (n p : ℕ) (q t u v : Place) (e : q ≡ sectionStart n p) (f : t ≡ namesChecked q (w .pane .base)) (g : u ≡ reserveChecked t (w .pane .base))
-    (o : v ≡ ownChecked (w .pane .kind) u w) where
-  pub place-told : (c : Cursor) → v ≡ At c → SectionOk n p × GoodOwn (w .pane .kind) w
-  place-told c h =
-      let (i, y) = own-cleared (w .pane .kind) u w c (sym o ∙ h) in
-      let (k, z) = base-cleared q (w .pane .base) c (rw (g, f) at i) in
-      (section-started n p c (rw e at k) .1, y)
-
-  pub write-refused : (why : Refusal) → v ≡ Refused why → Refused why ≡ writeChecked w n p
-  unfolding writeChecked
-  write-refused why h = end-stays _ _ n why (rw (← e, ← f, ← g, ← o) h)
-
-  pub write-ends : (c : Cursor) (m : ℕ) → v ≡ At c → m ≡ sizeOf p w → endChecked (At c) (p + m) n ≡ writeChecked w n p
-  unfolding writeChecked
-  write-ends c m h k = rw (← e, ← f, ← g, ← o, h, k)
+-- check 16 as the code makes it
+pub section-ends : (w : Whole) (n p : ℕ) (q : Place) (c : Cursor) (m : ℕ) → GoodOwn (w .pane .kind) w → q ≡ At c → m ≡ sizeOf p w → endChecked (At c) (p + m) n ≡ endChecked q (sectionEnd p w) n
+section-ends w n p q c m _ h k = rw (h, k)
 
 pub letters-bytes : (k : Kind) → bytesOf Little 4 (lettersOf k) ≡ letterBytes k
 unfolding bytesOf le letterBytes
 letters-bytes Pan1 = refl
 letters-bytes Pic1 = refl
+letters-bytes Txt1 = refl
 letters-bytes Wnd1 = refl
 letters-bytes Ali1 = refl
 
@@ -157,6 +145,10 @@ module _ (k : Kind) (w : Whole) where
   unfolding GoodOwn
   good-picture e h = subst (λ (j : Kind). GoodOwn j w) e h
 
+  pub good-text-box : k ≡ Txt1 → GoodOwn k w → Small (w .pane .«text_box») (w .lists .units) (w .lists .lines) (w .label)
+  unfolding GoodOwn
+  good-text-box e h = subst (λ (j : Kind). GoodOwn j w) e h
+
   pub good-window : k ≡ Wnd1 → GoodOwn k w → GoodWindow (w .lists .quads) (w .lists .frames)
   unfolding GoodOwn
   good-window e h = subst (λ (j : Kind). GoodOwn j w) e h
@@ -164,6 +156,9 @@ module _ (k : Kind) (w : Whole) where
   pub length-pic : (body n : ℕ) → k ≡ Pic1 → GoodOwn k w → n ≡ picture.bodyLength (w .pane .picture) (w .lists .quads) → (n ≡ bodyLength k body w) × (n < 2 ^ 31)
   length-pic body n e h f =
       (subst (λ (j : Kind). n ≡ bodyLength j body w) (sym e) f, omega (arith, f, body-short (w .pane .picture) (w .lists .quads) (good-picture e h)))
+
+  pub length-txt : (body m : ℕ) → k ≡ Txt1 → m ≡ textBoxLength body (w .pane .«text_box») (w .lists .units) (w .lists .lines) (w .label) → 76 + m ≡ bodyLength k body w
+  length-txt body m e f = subst (λ (j : Kind). 76 + m ≡ bodyLength j body w) (sym e) (ap (λ (x : ℕ). 76 + x) f)
 
   pub length-wnd : (body m : ℕ) → k ≡ Wnd1 → GoodOwn k w → m ≡ windowLength body (length (w .lists .quads)) (length (w .lists .frames))
       → (76 + m ≡ bodyLength k body w) × (76 + m < 2 ^ 31)
@@ -178,6 +173,9 @@ module _ (k : Kind) (w : Whole) where
 
     pub room-pic : k ≡ Pic1 → p + picture.bodyLength (w .pane .picture) (w .lists .quads) ≤ n
     room-pic e = subst (λ (j : Kind). p + bodyLength j p w ≤ n) e h
+
+    pub room-txt : k ≡ Txt1 → p + (76 + textBoxLength p (w .pane .«text_box») (w .lists .units) (w .lists .lines) (w .label)) ≤ n
+    room-txt e = subst (λ (j : Kind). p + bodyLength j p w ≤ n) e h
 
     pub room-wnd : k ≡ Wnd1 → p + window.bodyLength p (w .lists .quads) (w .lists .frames) ≤ n
     room-wnd e = subst (λ (j : Kind). p + bodyLength j p w ≤ n) e h
@@ -195,6 +193,11 @@ module _ (order : ByteOrder) (w : Whole) (k : Kind) {o o₁ : List ℕ} {p q : �
       → Put o p (bodyLength k p w) (encodeBody k order p w) q o₁
   unfolding encodeBody
   body-pic e h = rw e h
+
+  pub body-txt : k ≡ Txt1 → Put o p (76 + textBoxLength p (w .pane .«text_box») (w .lists .units) (w .lists .lines) (w .label)) (text-box.encodeBody order p (w .pane .base) (w .pane .«text_box») (w .lists .units) (w .lists .lines) (w .label)) q o₁
+      → Put o p (bodyLength k p w) (encodeBody k order p w) q o₁
+  unfolding encodeBody
+  body-txt e h = rw e h
 
   pub body-wnd : k ≡ Wnd1 → Put o p (window.bodyLength p (w .lists .quads) (w .lists .frames)) (window.encodeBody order p (w .pane .base) (w .pane .window) (w .lists .quads) (w .lists .frames)) q o₁
       → Put o p (bodyLength k p w) (encodeBody k order p w) q o₁

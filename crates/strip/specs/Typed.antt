@@ -3,6 +3,7 @@ use Prim.Native.Nat.{ℕ, _^_, _<_}
 use mathlib.Core.List.{List, [], _∷_}
 use Rattle.pane.specs.Typed.{TypedPane}
 use Rattle.picture.specs.Typed.{TypedPicture}
+use Rattle.text_box.specs.Typed.{TypedTextBox}
 use Rattle.window.specs.Typed.{TypedWindow}
 use Rattle.alignment.specs.Alignment.{TypedAlignment}
 use Rattle.strip.specs.Whole.{Whole}
@@ -16,6 +17,7 @@ Below n (x ∷ xs) = (x < n) × Below n xs
 pub record TypedRecord (r : Record) : Type 0 where
   pub base : TypedPane (r .base)
   pub picture : TypedPicture (r .picture)
+  pub «text_box» : TypedTextBox (r .«text_box»)
   pub window : TypedWindow (r .window)
   pub alignment : TypedAlignment (r .alignment)
 

@@ -6,6 +6,7 @@ ghost use Rattle.strip.specs.Kinds.{lettersOf, lengthOf, kindOf};
 pub enum Kind {
     Pan1,
     Pic1,
+    Txt1,
     Wnd1,
     Ali1,
 }
@@ -21,6 +22,8 @@ impl Kind {
 
     pub const PIC1: u32 = 0x31636970;
 
+    pub const TXT1: u32 = 0x31747874;
+
     pub const WND1: u32 = 0x31646E77;
 
     pub const ALI1: u32 = 0x31696C61;
@@ -32,6 +35,7 @@ impl Kind {
         match self {
             Kind::Pan1 => Kind::PAN1,
             Kind::Pic1 => Kind::PIC1,
+            Kind::Txt1 => Kind::TXT1,
             Kind::Wnd1 => Kind::WND1,
             Kind::Ali1 => Kind::ALI1,
         }
@@ -44,6 +48,7 @@ impl Kind {
         match self {
             Kind::Pan1 => 76,
             Kind::Pic1 => 96,
+            Kind::Txt1 => 160,
             Kind::Wnd1 => 104,
             Kind::Ali1 => 88,
         }
@@ -58,6 +63,9 @@ impl Kind {
         }
         if n == Kind::PIC1 {
             return KindFound::Is(Kind::Pic1);
+        }
+        if n == Kind::TXT1 {
+            return KindFound::Is(Kind::Txt1);
         }
         if n == Kind::WND1 {
             return KindFound::Is(Kind::Wnd1);

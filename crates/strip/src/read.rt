@@ -16,6 +16,7 @@ ghost use Rattle.strip.specs.Whole.{lists};
 ghost use Rattle.strip.specs.Read.{readStart, headerTaken, bodyRead, bodyLists, refusedWith, endedWith, passedWith, finished, readAt, listsAt, readSection, listsAfter};
 ghost use Rattle.strip.specs.Strip.{Full};
 ghost use Rattle.picture.specs.Body.{quadsRead};
+ghost use Rattle.text_box.specs.Body.{unitsAfter, linesAfter};
 ghost use Rattle.window.specs.Body.{readQuads, readFrames};
 
 // What a section read answers: the place after the body read and the next section; the next section; the end; or why not.
@@ -126,12 +127,14 @@ fn read_pan1(order: ByteOrder, data: &[u8], p: Place, body: usize) -> BodyRead
     let answer = read.answer;
     let base = read.pane;
     let picture = picture::blank_picture();
+    let text_box = text_box::blank_text_box();
     let window = window::blank_window();
     let alignment = alignment::blank_alignment();
     let record = Record {
         kind: Kind::Pan1,
         base,
         picture,
+        text_box,
         window,
         alignment,
     };
@@ -147,12 +150,45 @@ fn read_pic1(order: ByteOrder, data: &[u8], p: Place, body: usize, quads: &mut [
     let answer = read.answer;
     let base = read.base;
     let picture = read.picture;
+    let text_box = text_box::blank_text_box();
     let window = window::blank_window();
     let alignment = alignment::blank_alignment();
     let record = Record {
         kind: Kind::Pic1,
         base,
         picture,
+        text_box,
+        window,
+        alignment,
+    };
+    BodyRead { answer, record }
+}
+
+fn read_txt1(
+    order: ByteOrder,
+    data: &[u8],
+    p: Place,
+    body: usize,
+    units: &mut [u16],
+    lines: &mut [u32],
+) -> BodyRead
+    requires { ⌜ (8 ≤ body) × (body < 2 ^ 32) × (32767 ≤ length (now units)) × (510 ≤ length (now lines)) ⌝ }
+    ensures { λ r. ⌜ r ≡ bodyRead order Kind.Txt1 (now («data» .entry)) p body ⌝ }
+    ensures { λ _. ⌜ now (units .exit) ≡ unitsAfter order (now («data» .entry)) p body (now (units .entry)) ⌝ }
+    ensures { λ _. ⌜ now (lines .exit) ≡ linesAfter order (now («data» .entry)) p body (now (lines .entry)) ⌝ }
+{
+    let read = text_box::body::read(order, data, p, body, units, lines);
+    let answer = read.answer;
+    let base = read.base;
+    let text_box = read.text_box;
+    let picture = picture::blank_picture();
+    let window = window::blank_window();
+    let alignment = alignment::blank_alignment();
+    let record = Record {
+        kind: Kind::Txt1,
+        base,
+        picture,
+        text_box,
         window,
         alignment,
     };
@@ -177,11 +213,13 @@ fn read_wnd1(
     let base = read.base;
     let window = read.window;
     let picture = picture::blank_picture();
+    let text_box = text_box::blank_text_box();
     let alignment = alignment::blank_alignment();
     let record = Record {
         kind: Kind::Wnd1,
         base,
         picture,
+        text_box,
         window,
         alignment,
     };
@@ -197,11 +235,13 @@ fn read_ali1(order: ByteOrder, data: &[u8], p: Place, body: usize) -> BodyRead
     let base = read.base;
     let alignment = read.alignment;
     let picture = picture::blank_picture();
+    let text_box = text_box::blank_text_box();
     let window = window::blank_window();
     let record = Record {
         kind: Kind::Ali1,
         base,
         picture,
+        text_box,
         window,
         alignment,
     };
@@ -227,6 +267,7 @@ fn read_kind(
     match kind {
         Kind::Pan1 => read_pan1(order, data, p, body),
         Kind::Pic1 => read_pic1(order, data, p, body, quads),
+        Kind::Txt1 => read_txt1(order, data, p, body, units, lines),
         Kind::Wnd1 => read_wnd1(order, data, p, body, quads, frames),
         Kind::Ali1 => read_ali1(order, data, p, body),
     }

@@ -3,6 +3,7 @@ use crate::kind::Kind;
 use alignment::AlignmentPane;
 use pane::Pane;
 use picture::PicturePane;
+use text_box::TextBoxPane;
 use window::WindowPane;
 ghost use mathlib.Core.Path.{_≡_};
 ghost use Prim.Native.Nat.{_^_, _<_};
@@ -14,6 +15,7 @@ pub struct Record {
     pub kind: Kind,
     pub base: Pane,
     pub picture: PicturePane,
+    pub text_box: TextBoxPane,
     pub window: WindowPane,
     pub alignment: AlignmentPane,
 }
@@ -24,12 +26,14 @@ pub fn blank_record() -> Record
 {
     let base = pane::blank_pane();
     let picture = picture::blank_picture();
+    let text_box = text_box::blank_text_box();
     let window = window::blank_window();
     let alignment = alignment::blank_alignment();
     Record {
         kind: Kind::Pan1,
         base,
         picture,
+        text_box,
         window,
         alignment,
     }
@@ -66,6 +70,7 @@ fn typed_record(r: Record)
 {
     pane::typed_pane(r.base);
     picture::typed_picture(r.picture);
+    text_box::typed_text_box(r.text_box);
     window::typed_window(r.window);
     alignment::typed_alignment(r.alignment);
 }

@@ -4,6 +4,7 @@ use crate::record::Record;
 use core::checks;
 use core::checks::Written;
 use core::cursor::ByteOrder;
+use core::cursor::Cursor;
 use core::cursor::Place;
 use core::writer;
 use pane::checks::names_checked;
@@ -12,9 +13,10 @@ ghost use mathlib.Core.Path.{_≡_};
 ghost use Prim.Native.Nat.{_+_, _^_, _≤_, _<_};
 ghost use lib.ListN.{length};
 ghost use Rattle.core.specs.Bytes.{Room, Put};
+ghost use Rattle.core.specs.Checks.{endChecked};
 ghost use Rattle.pane.specs.Pane.{Sound};
 ghost use Rattle.strip.specs.Whole.{whole};
-ghost use Rattle.strip.specs.Write.{GoodOwn, ownChecked, bodyLength, encodeBody, sectionSize, sizeOf, section, writeChecked, writeAnswer, writeOutput};
+ghost use Rattle.strip.specs.Write.{GoodOwn, ownLengthChecked, ownNameChecked, ownChecked, sectionEnd, bodyLength, encodeBody, sectionSize, sizeOf, section, writeChecked, writeAnswer, writeOutput};
 
 // Header, body and padding of a body of n bytes.
 fn section_size(n: usize) -> usize
@@ -34,13 +36,16 @@ fn body_length(
     label: &[u8],
     body: usize,
 ) -> usize
-    requires { ⌜ (body < 2 ^ 32) × GoodOwn (r .kind) (whole r (now quads) (now units) (now lines) (now frames) (now label)) ⌝ }
+    requires { ⌜ (8 ≤ body) × (body < 2 ^ 32) × GoodOwn (r .kind) (whole r (now quads) (now units) (now lines) (now frames) (now label)) ⌝ }
     ensures { λ n. ⌜ (n ≡ bodyLength (r .kind) body (whole r (now (quads .entry)) (now (units .entry)) (now (lines .entry)) (now (frames .entry)) (now (label .entry)))) × (n < 2 ^ 31) ⌝ }
 {
     let kind = r.kind;
     match kind {
         Kind::Pan1 => 76,
         Kind::Pic1 => picture::body::body_length(r.picture, quads),
+        Kind::Txt1 => {
+            76 + text_box::write::text_box_length(body, r.text_box, units, lines, label)
+        }
         Kind::Wnd1 => 76 + window::write::window_length(body, quads.len(), frames.len()),
         Kind::Ali1 => 88,
     }
@@ -62,8 +67,66 @@ fn own_checked(
     match kind {
         Kind::Pan1 => p,
         Kind::Pic1 => picture::picture_checked(p, quads),
+        Kind::Txt1 => text_box::checks::text_box_checked(p, r.text_box, units, lines),
         Kind::Wnd1 => window::write::window_checked(p, quads, frames),
         Kind::Ali1 => p,
+    }
+}
+
+// 1 of a label to write.
+fn own_length_checked(p: Place, r: Record, label: &[u8]) -> Place
+    ensures { λ a. ⌜ a ≡ ownLengthChecked (r .kind) p r (now (label .entry)) ⌝ }
+{
+    let kind = r.kind;
+    let x = r.text_box;
+    let name = x.label;
+    match kind {
+        Kind::Pan1 => p,
+        Kind::Pic1 => p,
+        Kind::Txt1 => text_box::checks::label_length_checked(p, name, label),
+        Kind::Wnd1 => p,
+        Kind::Ali1 => p,
+    }
+}
+
+// 9 of a label to write.
+fn own_name_checked(p: Place, r: Record, label: &[u8]) -> Place
+    ensures { λ a. ⌜ a ≡ ownNameChecked (r .kind) p r (now (label .entry)) ⌝ }
+{
+    let kind = r.kind;
+    let x = r.text_box;
+    let name = x.label;
+    match kind {
+        Kind::Pan1 => p,
+        Kind::Pic1 => p,
+        Kind::Txt1 => text_box::checks::label_name_checked(p, name, label),
+        Kind::Wnd1 => p,
+        Kind::Ali1 => p,
+    }
+}
+
+// 16, of a section whose body and padding are counted.
+fn section_end_checked(
+    p: Place,
+    r: Record,
+    quads: &[u32],
+    units: &[u16],
+    lines: &[u32],
+    frames: &[u16],
+    label: &[u8],
+    length: usize,
+    place: usize,
+) -> Place
+    requires { ⌜ ((c : Cursor) → p ≡ Place.At c → (place ≤ 16777216) × GoodOwn (r .kind) (whole r (now quads) (now units) (now lines) (now frames) (now label))) ⌝ }
+    ensures { λ a. ⌜ a ≡ endChecked p (sectionEnd place (whole r (now (quads .entry)) (now (units .entry)) (now (lines .entry)) (now (frames .entry)) (now (label .entry)))) length ⌝ }
+{
+    match p {
+        Place::Refused(why) => Place::Refused(why),
+        Place::At(c) => {
+            let n = body_length(r, quads, units, lines, frames, label, place + 8);
+            let size = section_size(n);
+            checks::end_checked(Place::At(c), place, size, length)
+        }
     }
 }
 
@@ -80,19 +143,16 @@ fn write_checked(
 ) -> Place
     ensures { λ a. ⌜ a ≡ writeChecked (whole r (now (quads .entry)) (now (units .entry)) (now (lines .entry)) (now (frames .entry)) (now (label .entry))) length place ⌝ }
 {
+    text_box::typed_text_box(r.text_box);
     let base = r.base;
-    let p = checks::section_start(length, place);
-    let p = names_checked(p, base);
-    let p = reserve_checked(p, base);
-    let p = own_checked(p, r, quads, units, lines, frames, label);
-    match p {
-        Place::Refused(why) => Place::Refused(why),
-        Place::At(c) => {
-            let n = body_length(r, quads, units, lines, frames, label, place + 8);
-            let size = section_size(n);
-            checks::end_checked(Place::At(c), place, size, length)
-        }
-    }
+    let p1 = checks::length_checked(Place::At(Cursor::start(place)), length);
+    let p2 = own_length_checked(p1, r, label);
+    let p3 = checks::section_checked(p2, length, place);
+    let p4 = names_checked(p3, base);
+    let p5 = own_name_checked(p4, r, label);
+    let p6 = reserve_checked(p5, base);
+    let p7 = own_checked(p6, r, quads, units, lines, frames, label);
+    section_end_checked(p7, r, quads, units, lines, frames, label, length, place)
 }
 
 fn put_body(
@@ -106,13 +166,16 @@ fn put_body(
     out: &mut [u8],
     p: usize,
 ) -> usize
-    requires { ⌜ Sound (r .base) × (p < 2 ^ 32) × GoodOwn (r .kind) (whole r (now quads) (now units) (now lines) (now frames) (now label)) × Room (now out) p (bodyLength (r .kind) p (whole r (now quads) (now units) (now lines) (now frames) (now label))) ⌝ }
+    requires { ⌜ Sound (r .base) × (8 ≤ p) × (p < 2 ^ 32) × GoodOwn (r .kind) (whole r (now quads) (now units) (now lines) (now frames) (now label)) × Room (now out) p (bodyLength (r .kind) p (whole r (now quads) (now units) (now lines) (now frames) (now label))) ⌝ }
     ensures { λ q. ⌜ Put (now (out .entry)) p (bodyLength (r .kind) p (whole r (now (quads .entry)) (now (units .entry)) (now (lines .entry)) (now (frames .entry)) (now (label .entry)))) (encodeBody (r .kind) order p (whole r (now (quads .entry)) (now (units .entry)) (now (lines .entry)) (now (frames .entry)) (now (label .entry)))) q (now (out .exit)) ⌝ }
 {
     let kind = r.kind;
     match kind {
         Kind::Pan1 => pane::put_pane(order, out, p, r.base),
         Kind::Pic1 => picture::body::put_body(order, out, p, r.base, r.picture, quads),
+        Kind::Txt1 => {
+            text_box::body::put_body(order, out, p, r.base, r.text_box, units, lines, label)
+        }
         Kind::Wnd1 => window::body::put_body(order, out, p, r.base, r.window, quads, frames),
         Kind::Ali1 => alignment::body::put_body(order, out, p, r.base, r.alignment),
     }
@@ -160,6 +223,7 @@ pub fn write_section(
     ensures { λ a. ⌜ a ≡ writeAnswer (whole r (now (quads .entry)) (now (units .entry)) (now (lines .entry)) (now (frames .entry)) (now (label .entry))) (length (now (out .entry))) place ⌝ }
     ensures { λ _. ⌜ now (out .exit) ≡ writeOutput order (whole r (now (quads .entry)) (now (units .entry)) (now (lines .entry)) (now (frames .entry)) (now (label .entry))) (now (out .entry)) place ⌝ }
 {
+    text_box::typed_text_box(r.text_box);
     let p = write_checked(r, quads, units, lines, frames, label, out.len(), place);
     match p {
         Place::Refused(why) => Written::Refused(why),

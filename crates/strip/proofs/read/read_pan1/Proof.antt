@@ -7,6 +7,7 @@ use Rattle.strip.proofs.read.read_pan1.Lts as lts
 use Rattle.alignment.proofs.blank_alignment.Reads as blank-alignment-reads
 use Rattle.pane.proofs.body.read.Reads as read-reads
 use Rattle.picture.proofs.blank_picture.Reads as blank-picture-reads
+use Rattle.text_box.proofs.blank_text_box.Reads as blank-text-box-reads
 use Rattle.window.proofs.blank_window.Reads as blank-window-reads
 
 read-requires : tie.Need-read-requires
@@ -14,6 +15,9 @@ read-requires c κs = search needs
 
 blank-picture-requires : tie.Need-blank-picture-requires
 blank-picture-requires c κs = search needs
+
+blank-text-box-requires : tie.Need-blank-text-box-requires
+blank-text-box-requires c κs = search needs
 
 blank-window-requires : tie.Need-blank-window-requires
 blank-window-requires c κs = search needs
@@ -23,7 +27,7 @@ blank-alignment-requires c κs = search needs
 
 returns : tie.Need-returns
 unfolding bodyRead
-returns c = rw (c .blank-alignment .ensures, c .before .blank-window .ensures, c .before .before .blank-picture .ensures, c .before .before .before .before .read .ensures)
+returns c = rw (c .blank-alignment .ensures, c .before .blank-window .ensures, c .before .before .blank-text-box .ensures, c .before .before .before .blank-picture .ensures, c .before .before .before .before .before .read .ensures)
 
 pub read-pan1-spec : {M : Type 1} → statement M
 read-pan1-spec =
@@ -31,6 +35,7 @@ read-pan1-spec =
     (tie.spec
     read-requires
     blank-picture-requires
+    blank-text-box-requires
     blank-window-requires
     blank-alignment-requires
     returns)

@@ -6,6 +6,7 @@ use Rattle.strip.proofs.read.read_wnd1.Reads as reads
 use Rattle.strip.proofs.read.read_wnd1.Lts as lts
 use Rattle.alignment.proofs.blank_alignment.Reads as blank-alignment-reads
 use Rattle.picture.proofs.blank_picture.Reads as blank-picture-reads
+use Rattle.text_box.proofs.blank_text_box.Reads as blank-text-box-reads
 use Rattle.window.proofs.body.read.Reads as read-reads
 
 read-requires : tie.Need-read-requires
@@ -13,6 +14,9 @@ read-requires c κs = search needs
 
 blank-picture-requires : tie.Need-blank-picture-requires
 blank-picture-requires c κs = search needs
+
+blank-text-box-requires : tie.Need-blank-text-box-requires
+blank-text-box-requires c κs = search needs
 
 blank-alignment-requires : tie.Need-blank-alignment-requires
 blank-alignment-requires c κs = search needs
@@ -25,7 +29,7 @@ same-length-2 c = search needs
 
 returns : tie.Need-returns
 unfolding bodyRead
-returns c = (rw (c .blank-alignment .ensures, c .before .blank-picture .ensures, c .before .before .before .before .before .before .before .before .read .ensures .0), (c .before .before .before .before .before .before .before .before .read .ensures .1 .0, c .before .before .before .before .before .before .before .before .read .ensures .1 .1))
+returns c = (rw (c .blank-alignment .ensures, c .before .blank-text-box .ensures, c .before .before .blank-picture .ensures, c .before .before .before .before .before .before .before .before .before .read .ensures .0), (c .before .before .before .before .before .before .before .before .before .read .ensures .1 .0, c .before .before .before .before .before .before .before .before .before .read .ensures .1 .1))
 
 pub read-wnd1-spec : {M : Type 1} → statement M
 read-wnd1-spec =
@@ -33,6 +37,7 @@ read-wnd1-spec =
     (tie.spec
     read-requires
     blank-picture-requires
+    blank-text-box-requires
     blank-alignment-requires
     same-length
     same-length-2

@@ -27,7 +27,7 @@ add-body : tie.Need-add-body
 add-body c = search needs
 
 body-length-requires : tie.Need-body-length-requires
-body-length-requires c κs = search needs
+body-length-requires c κs = let s = c .before .before .before .before .before .before .before in (omega arith, omega (arith, s .pre .1), s .pre .2)
 
 section-size-requires : tie.Need-section-size-requires
 section-size-requires c κs = search needs
@@ -45,7 +45,7 @@ put-u32-requires-2 : tie.Need-put-u32-requires-2
 put-u32-requires-2 c κs = omega (arith, room _ _ _ (c .before .before .before .before .before .before .before .before .before .before .before .before .before .before .before .pre .3))
 
 put-body-requires : tie.Need-put-body-requires
-put-body-requires c κs = let s = c .before .before .before .before .before .before .before .before .before .before .before .before .before .before .before .before .before .before .before in (s .pre .0, omega (arith, s .pre .1), s .pre .2, omega (arith, room _ _ _ (s .pre .3)))
+put-body-requires c κs = let s = c .before .before .before .before .before .before .before .before .before .before .before .before .before .before .before .before .before .before .before in (s .pre .0, omega arith, omega (arith, s .pre .1), s .pre .2, omega (arith, room _ _ _ (s .pre .3)))
 
 put-zeros-requires : tie.Need-put-zeros-requires
 put-zeros-requires c κs = omega (arith, room _ _ _ (c .before .before .before .before .before .before .before .before .before .before .before .before .before .before .before .before .before .before .before .before .before .before .before .pre .3), c .before .before .before .before .before .before .before .before .before .before .before .before .before .padding-at .ensures ∙ ap padding (c .before .before .before .before .before .before .before .before .before .before .before .before .before .before .before .body-length .ensures .0))

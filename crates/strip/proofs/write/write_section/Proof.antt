@@ -3,7 +3,7 @@ use Rattle.core.proofs.Checked.{wrote, not-wrote}
 use Rattle.pane.proofs.Cleared.{sound}
 use Rattle.strip.specs.Whole.{whole}
 use Rattle.strip.specs.Write.{writeAnswer, writeOutput}
-use Rattle.strip.proofs.Cleared.{write-cleared}
+use Rattle.strip.proofs.Cleared.{write-cleared, own-small}
 use native.Mathlib.Omega.{arith}
 use borrow.Author.Needs.{needs}
 use Rattle.strip.proofs.write.write_section.Statement.{statement}
@@ -12,6 +12,10 @@ use Rattle.strip.proofs.write.write_section.Reads as reads
 use Rattle.strip.proofs.write.write_section.Lts as lts
 use Rattle.strip.proofs.write.put_section.Reads as put-section-reads
 use Rattle.strip.proofs.write.write_checked.Reads as write-checked-reads
+use Rattle.text_box.proofs.typed_text_box.Reads as typed-text-box-reads
+
+typed-text-box-requires : tie.Need-typed-text-box-requires
+typed-text-box-requires c κs = search needs
 
 write-checked-requires : tie.Need-write-checked-requires
 write-checked-requires c κs = search needs
@@ -25,7 +29,7 @@ enum-told c = search needs
 put-section-requires : tie.Need-put-section-requires
 put-section-requires c κs =
     let a = write-cleared (whole _ _ _ _ _ _) _ _ _ (sym (c .before .before .before .write-checked .ensures) ∙ c .before .enum-told .given .1) in
-    (sound _ (a .good), omega (arith, a .place .most, a .place .within), a .own, a .fits)
+    (sound _ (a .good), omega (arith, a .place .most, a .place .within), own-small _ (whole _ _ _ _ _ _) (a .own) (c .before .before .before .before .typed-text-box .ensures .long), a .fits)
 
 returns : tie.Need-returns
 unfolding writeAnswer writeOutput
@@ -42,6 +46,7 @@ pub write-section-spec : {M : Type 1} → statement M
 write-section-spec =
     tie.close
     (tie.spec
+    typed-text-box-requires
     write-checked-requires
     enum-known-p
     enum-told

@@ -23,7 +23,11 @@ returns-4 c = simp (ne-eqb _ _ (c .before .before .before .if1 .left), ne-eqb _ 
 
 returns-5 : tie.Need-returns-5
 unfolding kindOf
-returns-5 c = simp (ne-eqb _ _ (c .before .before .before .if1 .left), ne-eqb _ _ (c .before .before .if2 .left), ne-eqb _ _ (c .before .if3 .left), ne-eqb _ _ (c .if4 .left))
+returns-5 c = simp (ne-eqb _ _ (c .before .before .before .before .if1 .left), ne-eqb _ _ (c .before .before .before .if2 .left), ne-eqb _ _ (c .before .before .if3 .left), ne-eqb _ _ (c .before .if4 .left), eq-eqb _ _ (c .if5 .taken))
+
+returns-6 : tie.Need-returns-6
+unfolding kindOf
+returns-6 c = simp (ne-eqb _ _ (c .before .before .before .before .if1 .left), ne-eqb _ _ (c .before .before .before .if2 .left), ne-eqb _ _ (c .before .before .if3 .left), ne-eqb _ _ (c .before .if4 .left), ne-eqb _ _ (c .if5 .left))
 
 pub of-letters-spec : {M : Type 1} → statement M
-of-letters-spec = tie.close (tie.spec returns returns-2 returns-3 returns-4 returns-5)
+of-letters-spec = tie.close (tie.spec returns returns-2 returns-3 returns-4 returns-5 returns-6)

@@ -1,0 +1,193 @@
+-- A text box that a write lets through is read back, anywhere in a buffer.
+use mathlib.Core.Path.{_≡_, refl, sym, ap, _∙_, subst}
+use Prim.Native.Nat.{ℕ, zero, suc, _+_, _-_, _*_, _/_, _^_, _≤_, _<_}
+use native.Mathlib.Nat.{add-zero}
+use native.Mathlib.Omega.{arith}
+use mathlib.Core.Bool.{Bool, true, false, _&&_}
+use mathlib.Core.List.{List, [], _∷_, _++_}
+use lib.ListN.{length, getD, length-replicate, replicate}
+use lib.Dec.{eqb}
+use borrow.Author.Tests.{ne-eqb}
+use Rattle.core.specs.Bytes.{bytesOf, bytesOfAll, padding}
+use Rattle.core.specs.Taken.{Taken, advanced, moved, sought}
+use Rattle.core.specs.Lists.{numbersTaken, numbersAt}
+use Rattle.core.specs.Checks.{unlessRefused}
+use Rattle.core.specs.declared.cursor.ByteOrder.{ByteOrder}
+use Rattle.core.specs.declared.cursor.Cursor.{Cursor}
+use Rattle.core.specs.declared.cursor.Place.the-variants.{At}
+use Rattle.core.proofs.Numbers.{length-bytes}
+use Rattle.core.proofs.Cursors.{pos-advanced, pos-moved, advanced-zero}
+use Rattle.core.proofs.Runs.{seek-got}
+use Rattle.core.proofs.Lists.{numbers-here}
+use Rattle.core.proofs.Back.{Holds, split, holds-fits, length-all, number-back, label-back}
+use Rattle.ui2d.proofs.Parts.{Fits, numbers-at}
+use Rattle.text_box.specs.declared.Text.{Text}
+use Rattle.text_box.specs.declared.Text.the-variants as text
+use Rattle.text_box.specs.declared.Label.{Label}
+use Rattle.text_box.specs.declared.Label.the-variants as label
+use Rattle.text_box.specs.declared.LineTable.{LineTable}
+use Rattle.text_box.specs.declared.LineTable.the-variants as lines
+use Rattle.text_box.specs.declared.parts.TextTaken.{TextTaken}
+use Rattle.text_box.specs.declared.parts.LabelTaken.{LabelTaken}
+use Rattle.text_box.specs.declared.parts.LinesTaken.{LinesTaken}
+use Rattle.text_box.specs.Parts.{placeOf, Part, absent, present, textAt, textTaken, labelAt, labelTaken, linesAt, linesTaken, column}
+use Rattle.text_box.specs.Written.{textOffset, partOffset, encodeText, encodeLabel, encodeLines}
+use Rattle.text_box.proofs.Columns.{length-column}
+use Rattle.text_box.proofs.Cleared.{GoodText, GoodLabel, GoodLines}
+
+-- ---- numbers of a list that fit w bytes each
+
+abbrev pub Below : ℕ → List ℕ → Type 0
+Below w l = (k : ℕ) → getD l k 0 < 256 ^ w
+
+pub fits : (w : ℕ) (l : List ℕ) → Below w l → Fits w l
+fits w [] h = tt
+fits w (v ∷ l) h = (h 0, fits w l (λ k. h (suc k)))
+
+pub fits-column : (w : ℕ) (l : List ℕ) (k n : ℕ) → Below w l → Fits w (column l k n)
+unfolding column
+fits-column w l k zero h = tt
+fits-column w l k (suc n) h = (h k, fits-column w l (k + 2) n h)
+
+-- ---- what a part that was written reads as
+
+abbrev pub readText : Part → Text
+readText absent = text.Absent
+readText (present u) = text.Present
+
+abbrev pub textPlace : ℕ → Part → ℕ
+textPlace body absent = 0
+textPlace body (present u) = placeOf body 168
+
+-- of a part that was aligned from a place
+abbrev pub readLabel : ℕ → Part → Label
+readLabel at absent = label.Absent
+readLabel at (present bytes) = label.At (at + padding at) (length bytes)
+
+abbrev pub readTable : Part → LineTable
+readTable absent = lines.Absent
+readTable (present l) = lines.Present (length l / 2)
+
+abbrev pub tablePlace : ℕ → Part → ℕ
+tablePlace at absent = 0
+tablePlace at (present l) = at + padding at
+
+-- the bounds of its numbers
+abbrev pub Bounded : ℕ → Part → Type 0
+Bounded w absent = Unit {0}
+Bounded w (present l) = Below w l
+
+-- flag bit 6 is set for a line table
+abbrev pub Set : Part → Bool → Type 0
+Set absent line = Unit {0}
+Set (present l) line = line ≡ true
+
+pub and-none : (a : Bool) → (a && false) ≡ false
+and-none true = refl
+and-none false = refl
+
+-- ---- a seek, and the numbers at its place
+
+module _ (s : List ℕ) where
+  go : (d : Cursor) (to : ℕ) → to ≤ length s → sought s (At d) to ≡ At (moved d to)
+  go d to h = sym (seek-got s (At d) to d refl h)
+
+  -- back to where the parts began
+  home : (a d : Cursor) (to : ℕ) → d .pos ≡ to → to ≤ length s → sought s (At a) to ≡ At d
+  unfolding moved
+  home a d to e h = go a to h ∙ ap (λ (k : ℕ). At (record { pos = k })) (sym e)
+
+  there : (d : Cursor) (to : ℕ) (xs : List ℕ) → Holds s to xs → Holds s (moved d to .pos) xs
+  there d to xs a = rw pos-moved a
+
+  -- n numbers where they were put
+  numbers-from : (order : ByteOrder) (w : ℕ) (d : Cursor) (l : List ℕ) → Fits w l → Holds s (d .pos) (bytesOfAll order w l)
+      → _≡_ {A = Taken (List ℕ)} (numbersTaken order w (length l) s (At d)) (record { value = l; then = At (advanced d (w * length l)) })
+  numbers-from order w d l f a =
+      let b : Holds s (d .pos + 0) (bytesOfAll order w l) = rw add-zero a in
+      let z : 0 + w * length l ≡ w * length l = omega arith in
+      rw (advanced-zero, z) at (numbers-at d order w 0 l f b)
+
+  -- a column of n of them
+  pub table-column : (order : ByteOrder) (d : Cursor) (l : List ℕ) (k n : ℕ) → Below 4 l → Holds s (d .pos) (bytesOfAll order 4 (column l k n))
+      → _≡_ {A = Taken (List ℕ)} (numbersTaken order 4 n s (At d)) (record { value = column l k n; then = At (advanced d (4 * n)) })
+  table-column order d l k n b a =
+      subst (λ (m : ℕ). _≡_ {A = Taken (List ℕ)} (numbersTaken order 4 m s (At d)) (record { value = column l k n; then = At (advanced d (4 * m)) }))
+      (length-column l k n) (numbers-from order 4 d (column l k n) (fits-column 4 l k n b) a)
+
+  -- and so they stand there
+  pub numbers-stand : (order : ByteOrder) (w at : ℕ) (l : List ℕ) → Fits w l → Holds s at (bytesOfAll order w l) → numbersAt order w (length l) s at ≡ l
+  numbers-stand order w at l f a =
+      let c : Cursor = record { pos = at } in
+      let h : at + w * length l ≤ length s = rw (← length-all order w l) (holds-fits (bytesOfAll order w l) a) in
+      sym (ap (λ (t : Taken (List ℕ)). t .value) (numbers-here order w s (length l) c h)) ∙ ap (λ (t : Taken (List ℕ)). t .value) (numbers-from order w c l f a)
+
+-- ---- each part, from a cursor d at B + 160
+
+module _ (s : List ℕ) (order : ByteOrder) (body : ℕ) (d : Cursor) (e : d .pos ≡ body + 160) (low : 8 ≤ body) (fit : body + 160 ≤ length s) where
+  pub text-back : (long : ℕ) (found : Part) → GoodText long found → Bounded 2 found → Holds s (placeOf body 168) (encodeText order found)
+      → _≡_ {A = TextTaken} (textTaken order s (At d) body (textOffset found) long)
+      (record { text = readText found; place = textPlace body found; then = At d })
+  unfolding textTaken textAt unlessRefused
+  text-back long absent g b h = refl
+  text-back long (present u) g b h =
+      let l : placeOf body 168 ≤ length s = omega (arith, holds-fits (bytesOfAll order 2 u) h) in
+      rw (
+        ← g .0,
+        go s d (placeOf body 168) l,
+        numbers-from s order 2 (moved d (placeOf body 168)) u (fits 2 u b) (there s d (placeOf body 168) (bytesOfAll order 2 u) h),
+        g .1,
+        home s (advanced (moved d (placeOf body 168)) (2 * length u)) d (body + 160) e fit,
+      )
+
+  module _ (at end : ℕ) (w : at ≡ placeOf body end) (pos : 0 < end) where
+    moves : placeOf body (end + padding at) ≡ at + padding at
+    moves = omega arith
+
+    some : eqb (end + padding at) 0 ≡ false
+    some = ne-eqb (end + padding at) 0 (λ z. omega arith)
+
+    pub label-read : (name : Part) → GoodLabel name → Holds s at (encodeLabel at name)
+        → _≡_ {A = LabelTaken} (labelTaken s (At d) body (partOffset at end name)) (record { label = readLabel at name; then = At d })
+    unfolding labelTaken labelAt
+    label-read absent g h = refl
+    label-read (present bytes) g h =
+        let k : Holds s (at + padding at) (bytes ++ (0 ∷ [])) = split (replicate (padding at) 0) (bytes ++ (0 ∷ [])) (padding at) (length-replicate (padding at) 0) h .1 in
+        let l : at + padding at ≤ length s = omega (arith, holds-fits (bytes ++ (0 ∷ [])) k) in
+        rw (
+          some,
+          moves,
+          go s d (at + padding at) l,
+          label-back (moved d (at + padding at)) bytes (g .0) (there s d (at + padding at) (bytes ++ (0 ∷ [])) k),
+          home s (advanced (moved d (at + padding at)) (length bytes + 1)) d (body + 160) e fit,
+        )
+
+    pub lines-read : (line : Bool) (table : Part) → GoodLines table → Set table line → Bounded 4 table → Holds s at (encodeLines order at table)
+        → _≡_ {A = LinesTaken} (linesTaken order s (At d) body line (partOffset at end table))
+        (record { «line_table» = readTable table; place = tablePlace at table; then = At d })
+    unfolding linesTaken linesAt
+    lines-read line absent g b f h = rw (and-none line)
+    lines-read line (present l) g b f h =
+        let n : ℕ = length l / 2 in
+        let o : List ℕ = bytesOfAll order 4 (column l 0 n) in
+        let v : List ℕ = bytesOfAll order 4 (column l 1 n) in
+        let k : Holds s (at + padding at) (bytesOf order 1 n ++ (o ++ v)) = split (replicate (padding at) 0) (bytesOf order 1 n ++ (o ++ v)) (padding at) (length-replicate (padding at) 0) h .1 in
+        let m : Cursor = moved d (at + padding at) in
+        let j = split (bytesOf order 1 n) (o ++ v) 1 (length-bytes order 1 n) (there s d (at + padding at) (bytesOf order 1 n ++ (o ++ v)) k) in
+        let i = split o v (4 * n) (length-all order 4 (column l 0 n) ∙ ap (λ (z : ℕ). 4 * z) (length-column l 0 n)) (j .1) in
+        let r : at + padding at ≤ length s = omega (arith, holds-fits (bytesOf order 1 n ++ (o ++ v)) k) in
+        let c₁ : Cursor = advanced m 1 in
+        let c₂ : Cursor = advanced c₁ (4 * n) in
+        let a₀ = number-back m order 1 n (omega (arith, g .1)) (j .0) in
+        let a₁ = table-column s order c₁ l 0 n f (rw pos-advanced (i .0)) in
+        let a₂ = table-column s order c₂ l 1 n f (rw (pos-advanced c₁ (4 * n), pos-advanced m 1) (i .1)) in
+        rw (
+          b,
+          some,
+          moves,
+          go s d (at + padding at) r,
+          a₀,
+          a₁,
+          a₂,
+          home s (advanced c₂ (4 * n)) d (body + 160) e fit,
+        )

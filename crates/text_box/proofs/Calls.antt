@@ -1,0 +1,159 @@
+-- The body calls as the code makes them, and what lets a body write through.
+use mathlib.Core.Path.{_≡_, refl, sym, ap, _∙_}
+use Prim.Native.Nat.{ℕ, _+_, _^_, _≤_, _<_}
+use native.Mathlib.Omega.{arith}
+use mathlib.Core.List.{List}
+use Rattle.core.specs.Taken.{start, stopIf, over}
+use Rattle.core.specs.Checks.{lengthChecked, bodyChecked, bodyStart, listChecked, parsedOf, unlessRefused}
+use Rattle.core.specs.declared.error.Refusal.{Refusal}
+use Rattle.core.specs.declared.cursor.ByteOrder.{ByteOrder}
+use Rattle.core.specs.declared.cursor.Cursor.{Cursor}
+use Rattle.core.specs.declared.cursor.Place.{Place}
+use Rattle.core.specs.declared.cursor.Place.the-variants.{At, Refused}
+use Rattle.core.specs.declared.checks.Parsed.the-variants as Parseds
+use Rattle.core.proofs.Runs.{cleared}
+use Rattle.core.proofs.Checked.{BodyOk, body-started, length-cleared, body-cleared, list-cleared, end-cleared}
+use Rattle.pane.specs.Pane.{paneTaken}
+use Rattle.pane.specs.Checks.{textsChecked, namesChecked, reserveChecked}
+use Rattle.pane.specs.declared.Pane.{Pane}
+use Rattle.pane.specs.declared.PaneTaken.{PaneTaken}
+use Rattle.pane.proofs.Run.{pane-stays}
+use Rattle.pane.proofs.Calls.{texts-stay}
+use Rattle.pane.proofs.Cleared.{Good, names-cleared, reserve-cleared}
+use Rattle.text_box.specs.declared.Label.{Label}
+use Rattle.text_box.specs.declared.Label.the-variants as label
+use Rattle.text_box.specs.declared.TextBoxPane.{TextBoxPane}
+use Rattle.text_box.specs.declared.TextBoxTaken.{TextBoxTaken}
+use Rattle.text_box.specs.declared.body.TextBoxParsed.{TextBoxParsed}
+use Rattle.text_box.specs.Parts.{labelPart, textBoxUnits, textBoxLines, Standing}
+use Rattle.text_box.specs.TextBox.{textBoxTaken}
+use Rattle.text_box.specs.Written.{Small, textBoxLength}
+use Rattle.text_box.specs.Checks.{labelChecked, labelLengthChecked, labelNameChecked, textBoxChecked}
+use Rattle.text_box.specs.Body.{Blank, textBoxOwn, textBoxEnd, textBoxRead, unitsAfter, linesAfter, Reads, textBoxStart, textBoxWriteChecked}
+use Rattle.text_box.proofs.Run.{text-box-stays}
+use Rattle.text_box.proofs.Came.{text-box-came}
+use Rattle.text_box.proofs.Cleared.{GoodTextBox, label-length-cleared, label-name-cleared, text-box-early, text-box-cleared, small}
+
+-- ---- check 7
+
+pub label-cleared : (p : Place) (s : List ℕ) (l : Label) (c : Cursor) → labelChecked p s l ≡ At c → p ≡ At c
+unfolding labelChecked
+label-cleared p s label.Absent c e = e
+label-cleared p s (label.At place long) c e = cleared p _ _ c e .0
+
+pub texts-cleared : (p : Place) (b : Pane) (body : ℕ) (c : Cursor) → textsChecked p b body ≡ At c → p ≡ At c
+unfolding textsChecked
+texts-cleared p b body c e = cleared p _ _ c (cleared _ _ _ c e .0) .0
+
+pub label-stays : (why : Refusal) (s : List ℕ) (l : Label) → labelChecked (Refused why) s l ≡ Refused why
+unfolding labelChecked stopIf
+label-stays why s label.Absent = refl
+label-stays why s (label.At place long) = refl
+
+-- ---- the read
+
+-- a read of a run that was refused
+pub end-refused : (order : ByteOrder) (s : List ℕ) (why : Refusal) (body : ℕ) → textBoxEnd order s (Refused why) body ≡ Refused why
+unfolding textBoxEnd textBoxOwn
+end-refused order s why body =
+    rw (
+      pane-stays order s why,
+      text-box-stays order s why body,
+      texts-stay why (paneTaken order s (Refused why) .pane) body,
+      label-stays why s (textBoxTaken order s (Refused why) body .«text_box» .label),
+    )
+
+pub refused-at : (order : ByteOrder) (s : List ℕ) (p : Place) (body : ℕ) (why : Refusal) → textBoxEnd order s p body ≡ Refused why
+    → (r : TextBoxParsed) → Blank why r → (u l : List ℕ) → Reads order s p body u l r u l
+unfolding textBoxRead unitsAfter linesAfter parsedOf unlessRefused
+refused-at order s p body why e r k u l = rw (e, ← k .answer, ← k .base, ← k .own) (refl, refl, refl)
+
+module _ (order : ByteOrder) (s : List ℕ) (p : Place) (body : ℕ) (b : PaneTaken) (t : TextBoxTaken) (q then : Place)
+    (e : b ≡ paneTaken order s p) (f : t ≡ textBoxTaken order s (b .then) body) (g : q ≡ textsChecked (t .then) (b .pane) body)
+    (h : then ≡ labelChecked q s (t .«text_box» .label)) where
+  own-is : textBoxOwn order s p body ≡ t
+  unfolding textBoxOwn
+  own-is = rw (← e, ← f)
+
+  end-is : textBoxEnd order s p body ≡ then
+  unfolding textBoxEnd
+  end-is = rw (own-is, ← e, ← g, ← h)
+
+  pub read-stands : (c : Cursor) → then ≡ At c → Standing s t
+  read-stands c k =
+      let a : t .then ≡ At c = texts-cleared (t .then) (b .pane) body c (sym g ∙ label-cleared q s (t .«text_box» .label) c (sym h ∙ k)) in
+      rw f (text-box-came order s (b .then) body c (ap (λ (z : TextBoxTaken). z .then) (sym f) ∙ a))
+
+  pub read-got : (c : Cursor) → then ≡ At c → (u u₀ l l₀ : List ℕ) → u ≡ over (textBoxUnits order s t) u₀ → l ≡ over (textBoxLines order s t) l₀
+      → Reads order s p body u₀ l₀ (record { answer = Parseds.Read (c .pos); base = b .pane; «text_box» = t .«text_box» }) u l
+  unfolding textBoxRead unitsAfter linesAfter parsedOf unlessRefused
+  read-got c k u u₀ l l₀ i j = rw (end-is, own-is, ← e, k) (refl, i, j)
+
+  pub read-refused : (why : Refusal) → then ≡ Refused why → (r : TextBoxParsed) → Blank why r → (u l : List ℕ) → Reads order s p body u l r u l
+  read-refused why k r z u l = refused-at order s p body why (end-is ∙ k) r z u l
+
+-- ---- 1, 2 and 3
+
+module _ (n nu nl body : ℕ) (p p₁ p₂ : Place) (e : p ≡ bodyStart n body) (f : p₁ ≡ listChecked p 2 32767 nu) (g : p₂ ≡ listChecked p₁ 3 510 nl) where
+  pub starts : p₂ ≡ textBoxStart n nu nl body
+  unfolding textBoxStart
+  starts = rw (g, f, e)
+
+  pub start-ok : (c : Cursor) → p₂ ≡ At c → (8 ≤ body) × (body < 2 ^ 32) × (32767 ≤ nu) × (510 ≤ nl)
+  start-ok c k =
+      let (a, l) = list-cleared p₁ 3 510 nl c (sym g ∙ k) in
+      let (b, u) = list-cleared p 2 32767 nu c (sym f ∙ a) in
+      let (d, o) = body-started n body c (sym e ∙ b) in
+      (o .least, omega (arith, o .most, o .within), u, l)
+
+  pub start-reads : (order : ByteOrder) (s : List ℕ) (c : Cursor) → p₂ ≡ At c → (u₀ l₀ : List ℕ) (r : TextBoxParsed) (u l : List ℕ)
+      → Reads order s (At c) body u₀ l₀ r u l → Reads order s (textBoxStart n nu nl body) body u₀ l₀ r u l
+  start-reads order s c k u₀ l₀ r u l h = rw (← starts, k) h
+
+  pub start-refused : (order : ByteOrder) (s : List ℕ) (why : Refusal) → p₂ ≡ Refused why → (r : TextBoxParsed) → Blank why r → (u l : List ℕ)
+      → Reads order s (textBoxStart n nu nl body) body u l r u l
+  start-refused order s why k r z u l =
+      refused-at order s (textBoxStart n nu nl body) body why (ap (λ (x : Place). textBoxEnd order s x body) (sym starts ∙ k) ∙ end-refused order s why body) r z u l
+
+-- ---- the write
+
+-- what the checks before 16 leave
+pub record Ready (b : Pane) (x : TextBoxPane) (units lines label : List ℕ) (n body : ℕ) : Type 0 where
+  pub place : BodyOk n body
+  pub base : Good b
+  pub own : GoodTextBox x units lines label
+
+pub ready : (b : Pane) (x : TextBoxPane) (units lines label : List ℕ) (n body : ℕ) (c : Cursor)
+    → textBoxChecked (reserveChecked (labelNameChecked (namesChecked (bodyChecked (labelLengthChecked (lengthChecked (At (start body)) n) (labelPart (x .label) label)) n body) b) (labelPart (x .label) label)) b) x units lines ≡ At c
+    → Ready b x units lines label n body
+ready b x units lines label n body c e =
+    let name = labelPart (x .label) label in
+    let (p₅, r) = reserve-cleared _ b c (text-box-early _ x units lines c e) in
+    let (p₄, k) = label-name-cleared _ name c p₅ in
+    let (p₃, nn, nu) = names-cleared _ b c p₄ in
+    let (p₂, l, w) = body-cleared _ n body c p₃ in
+    let (p₁, f) = label-length-cleared _ name c p₂ in
+    let (p₀, m) = length-cleared _ n c p₁ in
+    record {
+      place = record { most = m; least = l; within = w };
+      base = record { name = nn; user = nu; reserve = r };
+      own = text-box-cleared _ x units lines label c e f k .1;
+    }
+
+-- what lets a body write through
+pub record Accepts (b : Pane) (x : TextBoxPane) (units lines label : List ℕ) (n body : ℕ) : Type 0 where
+  pub ready : Ready b x units lines label n body
+  pub fits : body + (76 + textBoxLength body x units lines label) ≤ n
+
+pub write-cleared : (b : Pane) (x : TextBoxPane) (units lines label : List ℕ) (n body : ℕ) (c : Cursor)
+    → textBoxWriteChecked b x units lines label n body ≡ At c → Accepts b x units lines label n body
+unfolding textBoxWriteChecked
+write-cleared b x units lines label n body c e =
+    let (h, f) = end-cleared _ _ n c e in
+    record { ready = ready b x units lines label n body c h; fits = f }
+
+-- what 16 asks of the length
+pub measured : (b : Pane) (x : TextBoxPane) (units lines label : List ℕ) (n body : ℕ) → x .«text_length» < 256 ^ 2 → Ready b x units lines label n body
+    → (8 ≤ body) × (body < 2 ^ 32) × Small x units lines label
+measured b x units lines label n body h r =
+    (r .place .least, omega (arith, r .place .most, r .place .within), small x units lines label h (r .own))

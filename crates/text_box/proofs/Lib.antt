@@ -1,0 +1,15 @@
+pub mod Run
+pub mod Came
+pub mod Surrogates
+pub mod Columns
+pub mod Captions
+pub mod Parted
+pub mod Cleared
+pub mod Same
+pub mod Shift
+pub mod FixedBack
+pub mod Back
+pub mod Whole
+pub mod Equal
+pub mod Calls
+pub mod Examples

@@ -1,0 +1,53 @@
+use Rattle.text_box.proofs.Calls.{start-ok, start-reads, start-refused}
+use borrow.Author.Needs.{needs}
+use Rattle.text_box.proofs.body.parse.Statement.{statement}
+use Rattle.text_box.proofs.body.parse.Tie as tie
+
+body-start-requires : tie.Need-body-start-requires
+body-start-requires c κs = search needs
+
+list-checked-requires : tie.Need-list-checked-requires
+list-checked-requires c κs = search needs
+
+list-checked-requires-2 : tie.Need-list-checked-requires-2
+list-checked-requires-2 c κs = search needs
+
+enum-known-p2 : tie.Need-enum-known-p2
+enum-known-p2 c = search needs
+
+read-requires : tie.Need-read-requires
+read-requires c κs = start-ok _ _ _ _ _ _ _ (c .before .before .before .before .before .before .before .body-start .ensures) (c .before .before .before .before .before .before .list-checked .ensures) (c .before .before .before .before .before .list-checked2 .ensures) _ (c .before .before .before .p2 .given .1)
+
+enum-known-p2-2 : tie.Need-enum-known-p2-2
+enum-known-p2-2 c = search needs
+
+refused-requires : tie.Need-refused-requires
+refused-requires c κs = search needs
+
+same-length : tie.Need-same-length
+same-length c = search needs
+
+same-length-2 : tie.Need-same-length-2
+same-length-2 c = search needs
+
+returns : tie.Need-returns
+returns c = start-reads _ _ _ _ _ _ _ (c .before .before .before .before .before .before .before .before .before .before .before .before .body-start .ensures) (c .before .before .before .before .before .before .before .before .before .before .before .list-checked .ensures) (c .before .before .before .before .before .before .before .before .before .before .list-checked2 .ensures) _ _ _ (c .before .before .before .before .before .before .before .before .p2 .given .1) _ _ _ _ _ (c .before .before .before .before .read .ensures)
+
+returns-2 : tie.Need-returns-2
+returns-2 c = start-refused _ _ _ _ _ _ _ (c .before .before .before .before .before .before .body-start .ensures) (c .before .before .before .before .before .list-checked .ensures) (c .before .before .before .before .list-checked2 .ensures) _ _ _ (c .before .before .p22 .given .1) _ (c .refused .ensures) _ _
+
+pub parse-spec : {M : Type 1} → statement M
+parse-spec =
+    tie.close
+    (tie.spec
+    body-start-requires
+    list-checked-requires
+    list-checked-requires-2
+    enum-known-p2
+    read-requires
+    enum-known-p2-2
+    refused-requires
+    same-length
+    same-length-2
+    returns
+    returns-2)

@@ -1,0 +1,50 @@
+use mathlib.Core.Path.{sym, _∙_}
+use Rattle.core.proofs.Checked.{wrote, not-wrote}
+use Rattle.pane.proofs.Cleared.{sound}
+use Rattle.text_box.specs.Body.{textBoxWritten, textBoxOutput}
+use Rattle.text_box.proofs.Calls.{write-cleared, measured}
+use borrow.Author.Needs.{needs}
+use Rattle.text_box.proofs.body.write.Statement.{statement}
+use Rattle.text_box.proofs.body.write.Tie as tie
+
+typed-text-box-requires : tie.Need-typed-text-box-requires
+typed-text-box-requires c κs = search needs
+
+write-checked-requires : tie.Need-write-checked-requires
+write-checked-requires c κs = search needs
+
+enum-told : tie.Need-enum-told
+enum-told c = search needs
+
+put-body-requires : tie.Need-put-body-requires
+put-body-requires c κs =
+    let a = write-cleared _ _ _ _ _ _ _ _ (sym (c .before .before .before .write-checked .ensures) ∙ c .before .enum-told .given .1) in
+    let m = measured _ _ _ _ _ _ _ (c .before .before .before .before .typed-text-box .ensures .long) (a .ready) in
+    (sound _ (a .ready .base), m .0, m .1, m .2, a .fits)
+
+enum-known-p : tie.Need-enum-known-p
+enum-known-p c = search needs
+
+same-length : tie.Need-same-length
+same-length c = search needs
+
+returns : tie.Need-returns
+unfolding textBoxWritten textBoxOutput
+returns c = wrote _ _ (sym (c .before .before .before .before .before .before .write-checked .ensures) ∙ c .before .before .before .before .enum-told .given .1) (c .before .before .put-body .ensures)
+
+returns-2 : tie.Need-returns-2
+unfolding textBoxWritten textBoxOutput
+returns-2 c = not-wrote _ _ _ _ _ (sym (c .before .before .before .write-checked .ensures) ∙ c .before .p .given .1)
+
+pub write-spec : {M : Type 1} → statement M
+write-spec =
+    tie.close
+    (tie.spec
+    typed-text-box-requires
+    write-checked-requires
+    enum-told
+    put-body-requires
+    enum-known-p
+    same-length
+    returns
+    returns-2)

@@ -1,0 +1,9 @@
+pub mod Fixed
+pub mod Parts
+pub mod TextBox
+pub mod Written
+pub mod Caption
+pub mod Checks
+pub mod Same
+pub mod Typed
+pub mod Body

@@ -219,7 +219,7 @@ module _ (order : ByteOrder) where
       let n : length (strip y) ≡ y .place = length-take-le (y .place) (y .out) (g .inside) in
       rw (run-strip ws t o, g .ended) (gives (y .kept) (g .good) [] refl (rw (← run-strip ws t o, n) (g .small (omega arith))))
 
--- DEMAND 3, the whole of it, for the kinds that there are. Its parts, and the demand's sentences:
+-- DEMAND 3, the whole of it, for all five kinds. Its parts, and the demand's sentences:
 -- `ws`, `vs`: "any list of section writes of pane records, of any kinds in any order, refused ones included"; `o`, `u`: "one output of any length and bytes".
 -- `run`: "the first is made at place 0; after an accepted write the next is made at the end that this one answered, after a refused one at the
 --   same place again; each call gets the output as the one before left it". `writeAnswer` and `writeOutput` in it are the contract of `write_section`.

@@ -1,9 +1,9 @@
--- Worked examples of document 01's group M, by computation. Those on packed fields stand in `flags`, the one on a float in `ui2d`.
+-- Worked examples of document 01's group M, by computation. Those on packed fields stand in `flags`, the one on a float in `ui2d`, those on windows in `window`.
 use mathlib.Core.Path.{_≡_, refl}
 use mathlib.Core.List.{List, [], _∷_, _++_}
-use Prim.Native.Nat.{ℕ}
+use Prim.Native.Nat.{ℕ, _+_}
 use lib.ListN.{replicate}
-use Rattle.core.specs.Bytes.{spelled, part, numberAt}
+use Rattle.core.specs.Bytes.{spelled, part, numberAt, padding}
 use Rattle.core.specs.Taken.{start, advanced, stopIf, numberTaken, stringTaken, string24Taken, string8Taken, upToNul}
 use Rattle.core.specs.Checks.{lengthChecked, bodyChecked, sectionChecked, bodyStart, sectionStart, listChecked, parsedOf, unlessRefused}
 use Rattle.core.specs.declared.error.Refusal.the-variants.{UnexpectedEof}
@@ -14,11 +14,13 @@ use Rattle.ui2d.specs.Parts.{vector2Taken, vector3Taken}
 use Rattle.pane.specs.Pane.{paneTaken}
 use Rattle.pane.specs.Checks.{nameIll, textsChecked}
 use Rattle.pane.specs.Body.{paneRead, paneParsed}
+use Rattle.text_box.proofs.Examples.{At8, layout, text-box-at-8}
 use Rattle.alignment.specs.Alignment.{alignmentTaken}
 use Rattle.alignment.specs.Body.{alignmentRead}
 use Rattle.strip.specs.Kinds.{letterBytes, kindOf}
 use Rattle.strip.specs.Whole.{Lists, lists}
 use Rattle.strip.specs.Read.{readStart, sizeBad, headerTaken, bodyRead, finished, readBody, byKind, orRefused, refusedWith, endedWith, readAt, readSection}
+use Rattle.strip.specs.Write.{sectionSize}
 use Rattle.strip.specs.declared.kind.Kind.the-variants.{Ali1}
 use Rattle.strip.specs.declared.read.Section.the-variants as Sections
 
@@ -35,6 +37,15 @@ pub record Short : Type 0 where
 pub short : Short
 unfolding start advanced paneParsed paneRead parsedOf unlessRefused bodyStart lengthChecked bodyChecked stopIf textsChecked paneTaken string24Taken string8Taken vector2Taken vector3Taken numberTaken stringTaken upToNul part numberAt spelled
 short = record { eight = refl; twelve = refl; thirteen = refl; thirty-seven = refl }
+
+-- a text box at 8, one unit, a label of two bytes, one line: offsets 168, 172, 176; body 177, size 188
+pub record TextBoxAt8 : Type 0 where
+  pub laid : At8
+  pub size : sectionSize (76 + layout .length) ≡ 188
+
+pub text-box-section : TextBoxAt8
+unfolding sectionSize padding
+text-box-section = record { laid = text-box-at-8; size = refl }
 
 abbrev pub full : Lists
 full = lists (zeros 2040) (zeros 32767) (zeros 510) (zeros 510)

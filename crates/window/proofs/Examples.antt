@@ -6,23 +6,20 @@ use Rattle.core.specs.Bytes.{padding}
 use Rattle.window.specs.Write.{contentPadding, tableOffset, windowLength, frameOffsets}
 
 -- at 8, one quad, two frames: 172 bytes, table at 164, frames at 172 and 176
-pub size-8 : 76 + windowLength 8 8 4 ≡ 172
-unfolding windowLength contentPadding padding
-size-8 = refl
+pub record At8 : Type 0 where
+  pub bytes : 76 + windowLength 8 8 4 ≡ 172
+  pub table : tableOffset 8 8 ≡ 164
+  pub frames : frameOffsets (tableOffset 8 8 + 4 * 2) 2 ≡ 172 ∷ 176 ∷ []
 
-pub table-8 : tableOffset 8 8 ≡ 164
-unfolding tableOffset contentPadding padding
-table-8 = refl
-
-pub frames-8 : frameOffsets (tableOffset 8 8 + 4 * 2) 2 ≡ 172 ∷ 176 ∷ []
-unfolding frameOffsets tableOffset contentPadding padding
-frames-8 = refl
+pub window-at-8 : At8
+unfolding windowLength frameOffsets tableOffset contentPadding padding
+window-at-8 = record { bytes = refl; table = refl; frames = refl }
 
 -- at 9, none of either: 127 bytes, table at 135
-pub size-9 : 76 + windowLength 9 0 0 ≡ 127
-unfolding windowLength contentPadding padding
-size-9 = refl
+pub record At9 : Type 0 where
+  pub bytes : 76 + windowLength 9 0 0 ≡ 127
+  pub table : tableOffset 9 0 ≡ 135
 
-pub table-9 : tableOffset 9 0 ≡ 135
-unfolding tableOffset contentPadding padding
-table-9 = refl
+pub window-at-9 : At9
+unfolding windowLength tableOffset contentPadding padding
+window-at-9 = record { bytes = refl; table = refl }

@@ -2,19 +2,9 @@
 // `pane R N`, `pass N`, `no NUMBER a b`, `end`, or `bad` (odd, overlong or not hexadecimal).
 use core::cursor::ByteOrder;
 use core::error::Refusal;
+use digits::Line;
 use libc::STDOUT_FILENO;
 use strip::read::Section;
-ghost use Prim.Native.Nat.{_≤_, _<_};
-
-// The most digits of a line.
-const MOST: usize = 8192;
-
-// The line so far: how many bytes it has, how many of them are digits that were kept, and whether it is bad.
-struct Line {
-    digits: usize,
-    begun: bool,
-    bad: bool,
-}
 
 // ---- answers
 
@@ -72,97 +62,22 @@ fn answer(data: &[u8]) {
 
 // ---- lines
 
-fn blank_line() -> Line {
-    Line {
-        digits: 0,
-        begun: false,
-        bad: false,
-    }
-}
-
-fn bad_line(digits: usize) -> Line {
-    Line {
-        digits,
-        begun: true,
-        bad: true,
-    }
-}
-
 // At the end of a line.
 fn ended(bytes: &[u8], line: Line) {
-    let n = line.digits;
-    let half = n / 2;
-    if line.bad || n % 2 != 0 || bytes.len() < half {
+    let half = line.digits / 2;
+    if digits::spells(line, bytes.len()) && half <= bytes.len() {
+        answer(&bytes[0..half]);
+    } else {
         print(b"bad\n");
-        return;
-    }
-    answer(&bytes[0..half]);
-}
-
-// A digit's value, or 16.
-fn value_of(b: u8) -> u8
-    ensures { λ r. ⌜ r ≤ 16 ⌝ }
-{
-    if b'0' <= b {
-        if b <= b'9' {
-            return b - b'0';
-        }
-    }
-    if b'a' <= b {
-        if b <= b'f' {
-            return b - b'a' + 10;
-        }
-    }
-    if b'A' <= b {
-        if b <= b'F' {
-            return b - b'A' + 10;
-        }
-    }
-    16
-}
-
-fn joined(old: u8, v: u8) -> u8
-    requires { ⌜ v < 16 ⌝ }
-{
-    old / 16 * 16 + v
-}
-
-// Puts a digit's value into the high or the low half of a byte.
-fn put(bytes: &mut [u8], at: usize, high: bool, v: u8)
-    requires { ⌜ v < 16 ⌝ }
-{
-    if at < bytes.len() {
-        if high {
-            bytes[at] = v * 16;
-        } else {
-            bytes[at] = joined(bytes[at], v);
-        }
-    }
-}
-
-fn digit(bytes: &mut [u8], line: Line, b: u8) -> Line {
-    let v = value_of(b);
-    let n = line.digits;
-    if 15 < v {
-        return bad_line(n);
-    }
-    if MOST <= n {
-        return bad_line(n);
-    }
-    put(bytes, n / 2, n % 2 == 0, v);
-    Line {
-        digits: n + 1,
-        begun: true,
-        bad: line.bad,
     }
 }
 
 fn byte(bytes: &mut [u8], line: Line, b: u8) -> Line {
     if b == b'\n' {
         ended(bytes, line);
-        blank_line()
+        digits::blank_line()
     } else {
-        digit(bytes, line, b)
+        digits::digit(bytes, line, b)
     }
 }
 
@@ -202,7 +117,7 @@ fn all(bytes: &mut [u8]) {
     let mut turns = u64::MAX;
     let mut m = Progress {
         go: true,
-        line: blank_line(),
+        line: digits::blank_line(),
     };
     while turns > 0 && m.go {
         let line = m.line;

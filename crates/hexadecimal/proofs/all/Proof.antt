@@ -5,7 +5,7 @@ use Rattle.hexadecimal.proofs.all.Statement.{statement}
 use Rattle.hexadecimal.proofs.all.Tie as tie
 use Rattle.hexadecimal.proofs.all.Reads as reads
 use Rattle.hexadecimal.proofs.all.Lts as lts
-use Rattle.hexadecimal.proofs.blank_line.Reads as blank-line-reads
+use Rattle.digits.proofs.blank_line.Reads as blank-line-reads
 use Rattle.hexadecimal.proofs.ended.Reads as ended-reads
 use Rattle.hexadecimal.proofs.read_some.Reads as read-some-reads
 
@@ -15,36 +15,47 @@ Inv-loop bytes₀ turns₀ m₀ bytes turns m = length bytes ≡ length bytes₀
 abbrev μ-loop : tie.MeasureT-loop
 μ-loop bytes₀ turns₀ m₀ bytes turns m = turns
 
+-- src/main.rt:120:15
 blank-line-requires : tie.Need-blank-line-requires Inv-loop μ-loop
 blank-line-requires c κs = search needs
 
+-- src/main.rt:122:5
 loop-holds : tie.Need-loop-holds Inv-loop μ-loop
 loop-holds c = search needs
 
+-- src/main.rt:124:9
 read-some-requires : tie.Need-read-some-requires Inv-loop μ-loop
 read-some-requires c κs = search needs
 
+-- src/main.rt:125:9
 sub-turns : tie.Need-sub-turns Inv-loop μ-loop
 sub-turns c = search needs
 
+-- src/main.rt:122:5
 loop-less : tie.Need-loop-less Inv-loop μ-loop
 loop-less c = search needs
 
+-- src/main.rt:122:5
 loop-again : tie.Need-loop-again Inv-loop μ-loop
 loop-again c = search needs
 
+-- src/main.rt:129:9
 ended-requires : tie.Need-ended-requires Inv-loop μ-loop
 ended-requires c κs = search needs
 
+-- src/main.rt:116:1
 same-length : tie.Need-same-length Inv-loop μ-loop
 same-length c = search needs
 
+-- src/main.rt:116:1
 returns : tie.Need-returns Inv-loop μ-loop
 returns c = search needs
 
+-- src/main.rt:116:1
 same-length-2 : tie.Need-same-length-2 Inv-loop μ-loop
 same-length-2 c = search needs
 
+-- src/main.rt:116:1
 returns-2 : tie.Need-returns-2 Inv-loop μ-loop
 returns-2 c = search needs
 

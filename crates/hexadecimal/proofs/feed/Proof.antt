@@ -14,27 +14,35 @@ Inv-loop chunk bytes₀ l₀ i₀ bytes l i = (i ≤ length chunk) × (length by
 abbrev μ-loop : tie.MeasureT-loop
 μ-loop chunk bytes₀ l₀ i₀ bytes l i = length chunk - i
 
+-- src/main.rt:87:5
 loop-holds : tie.Need-loop-holds Inv-loop μ-loop
 loop-holds c = search needs
 
+-- src/main.rt:88:28
 shared-slice-read-byte : tie.Need-shared-slice-read-byte Inv-loop μ-loop
 shared-slice-read-byte c = search needs
 
+-- src/main.rt:88:9
 byte-requires : tie.Need-byte-requires Inv-loop μ-loop
 byte-requires c κs = search needs
 
+-- src/main.rt:89:9
 add-i : tie.Need-add-i Inv-loop μ-loop
 add-i c = search needs
 
+-- src/main.rt:87:5
 loop-less : tie.Need-loop-less Inv-loop μ-loop
 loop-less c = search needs
 
+-- src/main.rt:87:5
 loop-again : tie.Need-loop-again Inv-loop μ-loop
 loop-again c = search needs
 
+-- src/main.rt:84:1
 same-length : tie.Need-same-length Inv-loop μ-loop
 same-length c = search needs
 
+-- src/main.rt:84:1
 returns : tie.Need-returns Inv-loop μ-loop
 returns c = search needs
 

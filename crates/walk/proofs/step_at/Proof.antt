@@ -1,0 +1,43 @@
+use Rattle.walk.proofs.Steps.{step-made}
+use borrow.Author.Needs.{needs}
+use Rattle.walk.proofs.step_at.Statement.{statement}
+use Rattle.walk.proofs.step_at.Tie as tie
+use Rattle.walk.proofs.step_at.Reads as reads
+use Rattle.walk.proofs.step_at.Lts as lts
+use Rattle.strip.proofs.read.read_section.Reads as read-section-reads
+use Rattle.walk.proofs.place_after.Reads as place-after-reads
+
+read-section-requires : tie.Need-read-section-requires
+read-section-requires c κs = search needs
+
+place-after-requires : tie.Need-place-after-requires
+place-after-requires c κs = search needs
+
+same-length : tie.Need-same-length
+same-length c = search needs
+
+same-length-2 : tie.Need-same-length-2
+same-length-2 c = search needs
+
+same-length-3 : tie.Need-same-length-3
+same-length-3 c = search needs
+
+same-length-4 : tie.Need-same-length-4
+same-length-4 c = search needs
+
+returns : tie.Need-returns
+returns c =
+    let read = c .before .before .before .before .before .before .before .before .before .before .read-section .ensures in
+    (step-made _ _ _ _ _ _ (read .0) (c .place-after .ensures), read .1)
+
+pub step-at-spec : {M : Type 1} → statement M
+step-at-spec =
+    tie.close
+    (tie.spec
+    read-section-requires
+    place-after-requires
+    same-length
+    same-length-2
+    same-length-3
+    same-length-4
+    returns)

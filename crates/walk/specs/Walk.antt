@@ -1,0 +1,23 @@
+-- The walk over a strip: the section at its place, and the place that it hands on.
+use Prim.Native.Nat.{ℕ}
+use mathlib.Core.List.{List}
+use Rattle.core.specs.declared.cursor.ByteOrder.{ByteOrder}
+use Rattle.strip.specs.Read.{readSection}
+use Rattle.strip.specs.Whole.{Lists}
+use Rattle.strip.specs.declared.read.Section.{Section}
+use Rattle.strip.specs.declared.read.Section.the-variants.{End, Passed, Pane, Refused}
+use Rattle.strip.specs.declared.read.SectionRead.{SectionRead}
+use Rattle.walk.specs.declared.Step.{Step}
+
+-- the next section's place after a pane or a passed section; at the end, and where the read is refused, the place stays
+unfoldable pub placeAfter : ℕ → Section → ℕ
+placeAfter p End = p
+placeAfter p (Passed next) = next
+placeAfter p (Pane end next) = next
+placeAfter p (Refused why) = p
+
+-- THE STEP OF A WALK whose place is p: the section read at p of the strip s, with the lists l lent, and the place after it
+unfoldable pub stepAt : ByteOrder → List ℕ → ℕ → Lists → Step
+stepAt order s p l =
+    let r : SectionRead = readSection order s p l in
+    record { answer = r .answer; «record» = r .«record»; place = placeAfter p (r .answer) }

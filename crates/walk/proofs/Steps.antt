@@ -94,3 +94,11 @@ pub step-moved : (order : ByteOrder) (s : List ℕ) (p : ℕ) (l : Lists) → Mo
 unfolding stepAt readSection
 step-moved order s p l =
     or-moved (length s) p _ _ (λ c g. end-moved (length s) p (eqb p (length s)) _ (at-moved order s p (read-started (length s) p l c g .0 .within)))
+
+-- so what is left of the strip is a measure of a loop that walks
+pub step-less : (order : ByteOrder) (s : List ℕ) (p : ℕ) (l : Lists) (r : Step) → r ≡ stepAt order s p l → p < r .place → length s - r .place < length s - p
+step-less order s p l r e h = less (r .place) h (subst (λ (x : Step). Moved (length s) p (x .place)) (sym e) (step-moved order s p l))
+  where
+    less : (q : ℕ) → p < q → Moved (length s) p q → length s - q < length s - p
+    less q g (inl k) = omega (arith, g, k)
+    less q g (inr (k, m)) = omega (arith, g, k, m)

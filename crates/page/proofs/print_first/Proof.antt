@@ -1,0 +1,23 @@
+use mathlib.Core.Path.{sym}
+use lib.Seq.{length-take-le}
+use borrow.Author.Needs.{needs}
+use Rattle.page.proofs.print_first.Statement.{statement}
+use Rattle.page.proofs.print_first.Tie as tie
+use Rattle.page.proofs.print_first.Reads as reads
+use Rattle.page.proofs.print_first.Lts as lts
+use Rattle.page.proofs.print.Reads as print-reads
+
+slice-aggregate-print : tie.Need-slice-aggregate-print
+slice-aggregate-print c = sym (length-take-le _ _ (c .before .if1 .taken))
+
+print-requires : tie.Need-print-requires
+print-requires c κs = search needs
+
+returns : tie.Need-returns
+returns c = search needs
+
+returns-2 : tie.Need-returns-2
+returns-2 c = search needs
+
+pub print-first-spec : {M : Type 1} → statement M
+print-first-spec = tie.close (tie.spec slice-aggregate-print print-requires returns returns-2)

@@ -1,0 +1,158 @@
+// Walks a stored page and prints a line for each section: `pan1 "Name" at 0, 84 bytes` for a pane, `pass "usd1" at 84, 16 bytes` for letters
+// of no kind, and at last `end at 100`, or `no NUMBER a b at 100` where the section is refused.
+// The page is standard input, at most 65,535 bytes.
+use core::cursor::ByteOrder;
+use core::error::Refusal;
+use core::text::FixedString24;
+use libc::STDOUT_FILENO;
+use strip::kind::Kind;
+use strip::read::Section;
+use strip::record::Record;
+ghost use mathlib.Core.Path.{_≡_};
+ghost use Prim.Native.Nat.{_-_, _≤_};
+ghost use Rattle.strip.specs.Kinds.{letterBytes};
+
+// ---- the parts of a line
+
+fn letters(kind: Kind) -> [u8; 4]
+    ensures { λ r. ⌜ r ≡ letterBytes kind ⌝ }
+{
+    match kind {
+        Kind::Pan1 => [b'p', b'a', b'n', b'1'],
+        Kind::Pic1 => [b'p', b'i', b'c', b'1'],
+        Kind::Txt1 => [b't', b'x', b't', b'1'],
+        Kind::Wnd1 => [b'w', b'n', b'd', b'1'],
+        Kind::Ali1 => [b'a', b'l', b'i', b'1'],
+    }
+}
+
+// How many bytes lie from a place to the next; none where the walk stayed.
+fn size(place: usize, next: usize) -> usize
+    ensures { λ r. ⌜ r ≡ next - place ⌝ }
+{
+    if place < next { next - place } else { 0 }
+}
+
+fn print(text: &[u8]) {
+    io::write_all(STDOUT_FILENO, text);
+}
+
+fn print_number(n: usize) {
+    io::print_decimal(STDOUT_FILENO, n as u64);
+}
+
+fn print_figure(n: usize) {
+    print(b" ");
+    print_number(n);
+}
+
+fn print_place(place: usize) {
+    print(b" at");
+    print_figure(place);
+}
+
+fn print_size(place: usize, next: usize) {
+    print_place(place);
+    print(b",");
+    print_figure(size(place, next));
+    print(b" bytes\n");
+}
+
+// The first n of these bytes, where there are so many.
+fn print_first(bytes: &[u8], n: usize) {
+    if n <= bytes.len() {
+        print(&bytes[..n]);
+    }
+}
+
+fn print_name(name: FixedString24) {
+    let bytes = name.bytes;
+    print_first(&bytes, name.count);
+}
+
+// ---- the lines
+
+fn print_pane(record: Record, place: usize, next: usize) {
+    let kind = record.kind;
+    let base = record.base;
+    let name = base.pane_name;
+    print(&letters(kind));
+    print(b" \"");
+    print_name(name);
+    print(b"\"");
+    print_size(place, next);
+}
+
+fn print_passed(data: &[u8], place: usize, next: usize) {
+    print(b"pass \"");
+    if place <= data.len() {
+        print_first(&data[place..], 4);
+    }
+    print(b"\"");
+    print_size(place, next);
+}
+
+fn print_refusal(why: Refusal, place: usize) {
+    print(b"no");
+    print_figure(why.number());
+    print_figure(why.a());
+    print_figure(why.b());
+    print_place(place);
+    print(b"\n");
+}
+
+fn print_section(data: &[u8], place: usize, answer: Section, record: Record) {
+    match answer {
+        Section::End => {
+            print(b"end");
+            print_place(place);
+            print(b"\n");
+        }
+        Section::Passed { next } => print_passed(data, place, next),
+        Section::Pane { end: _, next } => print_pane(record, place, next),
+        Section::Refused(why) => print_refusal(why, place),
+    }
+}
+
+// ---- the page
+
+// A line for each section, until the walk stays where it is.
+fn print_page(
+    data: &[u8],
+    quads: &mut [u32],
+    units: &mut [u16],
+    lines: &mut [u32],
+    frames: &mut [u16],
+) {
+    let mut place = 0;
+    loop {
+        let step = walk::section_after(ByteOrder::Little, data, place, quads, units, lines, frames);
+        let answer = step.answer;
+        let record = step.record;
+        let next = step.place;
+        print_section(data, place, answer, record);
+        if next <= place {
+            return;
+        }
+        place = next;
+    }
+}
+
+// With lists at full length.
+fn page(data: &[u8]) {
+    let mut quads = [0u32; 2040];
+    let mut units = [0u16; 32767];
+    let mut lines = [0u32; 510];
+    let mut frames = [0u16; 510];
+    print_page(data, &mut quads, &mut units, &mut lines, &mut frames);
+}
+
+fn main() {
+    let mut bytes = io::large_buffer();
+    let n = io::read_full(0, &mut bytes);
+    if bytes.len() <= n {
+        print(b"more than 65535 bytes\n");
+        return;
+    }
+    page(&bytes[..n]);
+}

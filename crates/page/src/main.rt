@@ -14,16 +14,13 @@ ghost use Rattle.strip.specs.Kinds.{letterBytes};
 
 // ---- the parts of a line
 
+// The letters of a kind, as they stand in a section.
 fn letters(kind: Kind) -> [u8; 4]
     ensures { λ r. ⌜ r ≡ letterBytes kind ⌝ }
 {
-    match kind {
-        Kind::Pan1 => [b'p', b'a', b'n', b'1'],
-        Kind::Pic1 => [b'p', b'i', b'c', b'1'],
-        Kind::Txt1 => [b't', b'x', b't', b'1'],
-        Kind::Wnd1 => [b'w', b'n', b'd', b'1'],
-        Kind::Ali1 => [b'a', b'l', b'i', b'1'],
-    }
+    let mut out = [0u8; 4];
+    core::writer::put_u32(ByteOrder::Little, &mut out, 0, kind.letters());
+    out
 }
 
 // How many bytes lie from a place to the next; none where the walk stayed.

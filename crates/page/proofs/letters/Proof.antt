@@ -1,56 +1,34 @@
-use Rattle.strip.specs.Kinds.{letterBytes}
+use mathlib.Core.Path.{_≡_, refl, ap, _∙_}
+use Prim.Native.Nat.{ℕ}
+use mathlib.Core.List.{[], _∷_}
+use Rattle.core.specs.Bytes.{le, bytesOf, splice}
+use Rattle.core.specs.declared.cursor.ByteOrder.the-variants.{Little}
+use Rattle.strip.proofs.Steps.{letters-bytes}
 use borrow.Author.Needs.{needs}
 use Rattle.page.proofs.letters.Statement.{statement}
 use Rattle.page.proofs.letters.Tie as tie
 use Rattle.page.proofs.letters.Reads as reads
 use Rattle.page.proofs.letters.Lts as lts
+use Rattle.core.proofs.writer.put_u32.Reads as put-u32-reads
+use Rattle.strip.proofs.kind.Kind.letters.Reads as letters-reads
 
-enum-told : tie.Need-enum-told
-enum-told c = search needs
+-- four bytes put over four are what is left
+over-all : (v : ℕ) → splice (0 ∷ 0 ∷ 0 ∷ 0 ∷ []) 0 (bytesOf Little 4 v) ≡ bytesOf Little 4 v
+unfolding splice bytesOf le
+over-all v = refl
 
-enum-told-2 : tie.Need-enum-told-2
-enum-told-2 c = search needs
+slice-aggregate-put-u32 : tie.Need-slice-aggregate-put-u32
+slice-aggregate-put-u32 c = search needs
 
-enum-told-3 : tie.Need-enum-told-3
-enum-told-3 c = search needs
+letters-requires : tie.Need-letters-requires
+letters-requires c κs = search needs
 
-enum-told-4 : tie.Need-enum-told-4
-enum-told-4 c = search needs
-
-enum-told-5 : tie.Need-enum-told-5
-enum-told-5 c = search needs
+put-u32-requires : tie.Need-put-u32-requires
+put-u32-requires c κs = search needs
 
 returns : tie.Need-returns
-unfolding letterBytes
-returns c = search needs
-
-returns-2 : tie.Need-returns-2
-unfolding letterBytes
-returns-2 c = search needs
-
-returns-3 : tie.Need-returns-3
-unfolding letterBytes
-returns-3 c = search needs
-
-returns-4 : tie.Need-returns-4
-unfolding letterBytes
-returns-4 c = search needs
-
-returns-5 : tie.Need-returns-5
-unfolding letterBytes
-returns-5 c = search needs
+returns c = c .before .put-u32 .ensures .bytes ∙ (over-all _ ∙ (ap (bytesOf Little 4) (c .before .before .letters .ensures) ∙ letters-bytes _))
 
 pub letters-spec : {M : Type 1} → statement M
 letters-spec =
-    tie.close
-    (tie.spec
-    enum-told
-    enum-told-2
-    enum-told-3
-    enum-told-4
-    enum-told-5
-    returns
-    returns-2
-    returns-3
-    returns-4
-    returns-5)
+    tie.close (tie.spec slice-aggregate-put-u32 letters-requires put-u32-requires returns)

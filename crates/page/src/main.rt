@@ -1,5 +1,5 @@
 // Walks a stored page and prints a line for each section: `pan1 "Name" at 0, 84 bytes` for a pane, `pass "usd1" at 84, 16 bytes` for letters
-// of no kind, and at last `end at 100`, or `no NUMBER a b at 100` where the section is refused.
+// of no kind, and at last `end at 100`, or `no NUMBER a b at 100: SENTENCE` where the section is refused, with the sentence of docs/REFUSALS.md.
 // The page is standard input, at most 65,535 bytes.
 use core::cursor::ByteOrder;
 use core::error::Refusal;
@@ -89,12 +89,72 @@ fn print_passed(data: &[u8], place: usize, next: usize) {
     print_size(place, next);
 }
 
+// A sentence with a number in it, and one with two.
+fn print_with(before: &[u8], n: usize, after: &[u8]) {
+    print(before);
+    print_number(n);
+    print(after);
+}
+
+fn print_with_two(before: &[u8], n: usize, between: &[u8], m: usize, after: &[u8]) {
+    print_with(before, n, between);
+    print_number(m);
+    print(after);
+}
+
+fn print_string(which: usize) {
+    match which {
+        1 => print(b"pane name"),
+        2 => print(b"user name"),
+        3 => print(b"label"),
+        _ => print(b"string"),
+    }
+}
+
+// What is wrong and where. A page is never too long, its places are multiples of 4 within it, and the lists are full: 4 to 8 are left.
+fn print_read_sentence(why: Refusal) {
+    match why {
+        Refusal::UnexpectedEof { offset, requested } => print_with_two(
+            b"the bytes run out: ",
+            requested,
+            b" more are needed at ",
+            offset,
+            b"",
+        ),
+        Refusal::NoNul { place } => print_with(
+            b"the label at ",
+            place,
+            b" meets no NUL before the end of the buffer",
+        ),
+        Refusal::PerCharacter { value } => print_with(
+            b"the text box has a per-character transform at offset ",
+            value,
+            b", which is not read",
+        ),
+        Refusal::IllFormedUtf8 { place, which } => {
+            print(b"the ");
+            print_string(which);
+            print_with(b" at ", place, b" is ill-formed UTF-8");
+        }
+        Refusal::SectionSize { place, size } => print_with_two(
+            b"the section size ",
+            size,
+            b" at ",
+            place,
+            b" is below 8, no multiple of 4, or passes the buffer",
+        ),
+        _ => print(b"no read of a page gives this"),
+    }
+}
+
 fn print_refusal(why: Refusal, place: usize) {
     print(b"no");
     print_figure(why.number());
     print_figure(why.a());
     print_figure(why.b());
     print_place(place);
+    print(b": ");
+    print_read_sentence(why);
     print(b"\n");
 }
 

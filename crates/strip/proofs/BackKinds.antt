@@ -24,19 +24,19 @@ use Rattle.picture.specs.Picture.{blankPicture, quadsOf, pictureQuads, pictureT
 use Rattle.picture.specs.Body as picture
 use Rattle.picture.specs.declared.PicturePane.{PicturePane}
 use Rattle.picture.proofs.Back as picture-laws
-use Rattle.text_box.specs.TextBox.{blankTextBox}
-use Rattle.text_box.specs.Parts.{unitsOf, linesOf, textBoxUnits, textBoxLines}
-use Rattle.text_box.specs.Caption.{labelOf}
-use Rattle.text_box.specs.Written.{encodeTextBox}
+use Rattle.text_box_read.specs.TextBox.{blankTextBox}
+use Rattle.text_box_read.specs.Parts.{unitsOf, linesOf, textBoxUnits, textBoxLines}
+use Rattle.text_box_read.specs.Caption.{labelOf}
+use Rattle.text_box_write.specs.Written.{encodeTextBox}
 use Rattle.text_box.specs.Body as text-box
 use Rattle.text_box.specs.Same as text-box-same
-use Rattle.text_box.specs.declared.Text.{Text}
-use Rattle.text_box.specs.declared.Text.the-variants as text
-use Rattle.text_box.specs.declared.LineTable.{LineTable}
-use Rattle.text_box.specs.declared.LineTable.the-variants as line
-use Rattle.text_box.specs.declared.TextBoxPane.{TextBoxPane}
-use Rattle.text_box.specs.declared.TextBoxTaken.{TextBoxTaken}
-use Rattle.text_box.proofs.Columns.{length-pairs}
+use Rattle.text_box_read.specs.declared.Text.{Text}
+use Rattle.text_box_read.specs.declared.Text.the-variants as text
+use Rattle.text_box_read.specs.declared.LineTable.{LineTable}
+use Rattle.text_box_read.specs.declared.LineTable.the-variants as line
+use Rattle.text_box_read.specs.declared.TextBoxPane.{TextBoxPane}
+use Rattle.text_box_read.specs.declared.TextBoxTaken.{TextBoxTaken}
+use Rattle.text_box_read.proofs.Pairs.{length-pairs}
 use Rattle.text_box.proofs.Equal as text-box-laws
 use Rattle.window.specs.Window.{blankWindow, windowTaken, windowQuads, windowFrames}
 use Rattle.window.specs.Write.{encodeWindow}

@@ -18,8 +18,8 @@ use Rattle.pane.specs.Checks.{namesChecked, reserveChecked}
 use Rattle.pane.proofs.Cleared.{Good, names-cleared, reserve-cleared}
 use Rattle.picture.specs.Picture.{GoodPicture}
 use Rattle.picture.proofs.Cleared.{picture-cleared}
-use Rattle.text_box.specs.Parts.{labelPart}
-use Rattle.text_box.specs.Written.{Few}
+use Rattle.text_box_read.specs.Parts.{labelPart}
+use Rattle.text_box_write.specs.Written.{Few}
 use Rattle.text_box.proofs.Cleared.{GoodLabel, GoodTextBox, label-length-cleared, label-name-cleared, text-box-early, text-box-cleared, small}
 use Rattle.window.specs.Write.{GoodWindow}
 use Rattle.window.proofs.Cleared.{window-cleared}

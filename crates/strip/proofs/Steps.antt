@@ -20,7 +20,7 @@ use Rattle.pane.specs.Pane.{encodePane}
 use Rattle.picture.specs.Picture.{GoodPicture}
 use Rattle.picture.proofs.Cleared.{body-short}
 use Rattle.picture.specs.Body as picture
-use Rattle.text_box.specs.Written.{Small, textBoxLength}
+use Rattle.text_box_write.specs.Written.{Small, textBoxLength}
 use Rattle.text_box.specs.Body as text-box
 use Rattle.window.specs.Write.{GoodWindow, windowLength, contentPadding}
 use Rattle.window.specs.Body as window

@@ -20,7 +20,7 @@ use Rattle.pane.specs.declared.body.PaneParsed.{PaneParsed}
 use Rattle.picture.specs.Picture.{blankPicture}
 use Rattle.picture.specs.Body.{pictureRead, quadsRead}
 use Rattle.picture.specs.declared.body.PictureParsed.{PictureParsed}
-use Rattle.text_box.specs.TextBox.{blankTextBox}
+use Rattle.text_box_read.specs.TextBox.{blankTextBox}
 use Rattle.text_box.specs.Body.{textBoxRead, unitsAfter, linesAfter}
 use Rattle.text_box.specs.declared.body.TextBoxParsed.{TextBoxParsed}
 use Rattle.window.specs.Window.{blankWindow}

@@ -3,7 +3,7 @@ use Prim.Native.Nat.{ℕ, _^_, _<_}
 use mathlib.Core.List.{List, [], _∷_}
 use Rattle.pane.specs.Typed.{TypedPane}
 use Rattle.picture.specs.Typed.{TypedPicture}
-use Rattle.text_box.specs.Typed.{TypedTextBox}
+use Rattle.text_box_read.specs.Typed.{TypedTextBox}
 use Rattle.window.specs.Typed.{TypedWindow}
 use Rattle.alignment.specs.Alignment.{TypedAlignment}
 use Rattle.strip.specs.Whole.{Whole}

@@ -7,14 +7,14 @@ use Rattle.pane.specs.Pane.{blankPane}
 use Rattle.pane.specs.Same.{SamePane}
 use Rattle.picture.specs.Picture.{blankPicture}
 use Rattle.picture.specs.Same.{SamePicture}
-use Rattle.text_box.specs.TextBox.{blankTextBox}
-use Rattle.text_box.specs.Caption.{labelOf}
+use Rattle.text_box_read.specs.TextBox.{blankTextBox}
+use Rattle.text_box_read.specs.Caption.{labelOf}
 use Rattle.text_box.specs.Same.{SameTextBox}
 use Rattle.text_box.specs.Same as text-box
-use Rattle.text_box.specs.declared.Text.{Text}
-use Rattle.text_box.specs.declared.Text.the-variants as text
-use Rattle.text_box.specs.declared.LineTable.{LineTable}
-use Rattle.text_box.specs.declared.LineTable.the-variants as line
+use Rattle.text_box_read.specs.declared.Text.{Text}
+use Rattle.text_box_read.specs.declared.Text.the-variants as text
+use Rattle.text_box_read.specs.declared.LineTable.{LineTable}
+use Rattle.text_box_read.specs.declared.LineTable.the-variants as line
 use Rattle.window.specs.Window.{blankWindow}
 use Rattle.window.specs.Same.{SameWindow}
 use Rattle.alignment.specs.Alignment.{blankAlignment}

@@ -13,9 +13,9 @@ use Rattle.pane.specs.Pane.{encodePane}
 use Rattle.pane.specs.Checks.{namesChecked, reserveChecked}
 use Rattle.picture.specs.Picture.{pictureChecked, GoodPicture}
 use Rattle.picture.specs.Body as picture
-use Rattle.text_box.specs.Parts.{labelPart}
+use Rattle.text_box_read.specs.Parts.{labelPart}
 use Rattle.text_box.specs.Checks.{labelLengthChecked, labelNameChecked, textBoxChecked}
-use Rattle.text_box.specs.Written.{Small, textBoxLength}
+use Rattle.text_box_write.specs.Written.{Small, textBoxLength}
 use Rattle.text_box.specs.Body as text-box
 use Rattle.window.specs.Write.{windowChecked, GoodWindow}
 use Rattle.window.specs.Body as window

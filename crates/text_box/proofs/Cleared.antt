@@ -17,11 +17,11 @@ use Rattle.unicode.specs.Utf8.{wellFormed}
 use Rattle.unicode.specs.Utf16.{utf16Of, isWellFormed, wellFormed16}
 use Rattle.unicode.specs.declared.utf16.Utf16.{Utf16}
 use Rattle.unicode.specs.declared.utf16.Utf16.the-variants.{WellFormed, Unpaired}
-use Rattle.text_box.specs.declared.LineTable.{LineTable}
-use Rattle.text_box.specs.declared.LineTable.the-variants as lines
-use Rattle.text_box.specs.declared.TextBoxPane.{TextBoxPane}
-use Rattle.text_box.specs.Parts.{Part, absent, present, textPart, labelPart, linePart}
-use Rattle.text_box.specs.Written.{Few, Small}
+use Rattle.text_box_read.specs.declared.LineTable.{LineTable}
+use Rattle.text_box_read.specs.declared.LineTable.the-variants as lines
+use Rattle.text_box_read.specs.declared.TextBoxPane.{TextBoxPane}
+use Rattle.text_box_read.specs.Parts.{Part, absent, present, textPart, labelPart, linePart}
+use Rattle.text_box_write.specs.Written.{Few, Small}
 use Rattle.text_box.specs.Checks.{labelLengthChecked, labelBad, labelNameChecked, linesBad, unitsBad, bitBad, faultChecked, utf16Checked, textBoxChecked}
 
 or-false : (a b : Bool) → (a || b) ≡ false → (a ≡ false) × (b ≡ false)

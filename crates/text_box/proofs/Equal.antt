@@ -14,22 +14,22 @@ use Rattle.core.proofs.Numbers.{length-bytes}
 use Rattle.core.proofs.Runs.{passed}
 use Rattle.core.proofs.Back.{Holds, split, holds-left, holds-fits, holds-part, length-all}
 use Rattle.unicode.specs.Utf8.{wellFormed}
-use Rattle.text_box.specs.declared.Label.the-variants as label
-use Rattle.text_box.specs.declared.LineTable.{LineTable}
-use Rattle.text_box.specs.declared.LineTable.the-variants as lines
-use Rattle.text_box.specs.declared.Text.{Text}
-use Rattle.text_box.specs.declared.Text.the-variants as text
-use Rattle.text_box.specs.declared.TextBoxPane.{TextBoxPane}
-use Rattle.text_box.specs.declared.TextBoxTaken.{TextBoxTaken}
-use Rattle.text_box.specs.Parts.{placeOf, Part, absent, present, textPart, labelPart, linePart, column, unitsOf, linesOf, textBoxUnits, textBoxLines}
-use Rattle.text_box.specs.TextBox.{textBoxTaken}
-use Rattle.text_box.specs.Written.{textEnd, labelEnd, encodeText, encodeLabel, encodeLines, encodeTextBox}
-use Rattle.text_box.specs.Caption.{labelOf}
+use Rattle.text_box_read.specs.declared.Label.the-variants as label
+use Rattle.text_box_read.specs.declared.LineTable.{LineTable}
+use Rattle.text_box_read.specs.declared.LineTable.the-variants as lines
+use Rattle.text_box_read.specs.declared.Text.{Text}
+use Rattle.text_box_read.specs.declared.Text.the-variants as text
+use Rattle.text_box_read.specs.declared.TextBoxPane.{TextBoxPane}
+use Rattle.text_box_read.specs.declared.TextBoxTaken.{TextBoxTaken}
+use Rattle.text_box_read.specs.Parts.{placeOf, Part, absent, present, textPart, labelPart, linePart, column, unitsOf, linesOf, textBoxUnits, textBoxLines}
+use Rattle.text_box_read.specs.TextBox.{textBoxTaken}
+use Rattle.text_box_write.specs.Written.{textEnd, labelEnd, encodeText, encodeLabel, encodeLines, encodeTextBox}
+use Rattle.text_box_read.specs.Caption.{labelOf}
 use Rattle.text_box.specs.Checks.{labelChecked}
 use Rattle.text_box.specs.Same.{SameTextBox}
-use Rattle.text_box.specs.Typed.{TypedTextBox}
-use Rattle.text_box.proofs.Captions.{inside}
-use Rattle.text_box.proofs.Columns.{length-column, lines-back}
+use Rattle.text_box_read.specs.Typed.{TypedTextBox}
+use Rattle.text_box_read.proofs.Captions.{inside}
+use Rattle.text_box_write.proofs.Columns.{length-column, lines-back}
 use Rattle.text_box.proofs.Cleared.{GoodText, GoodLabel, GoodLines, GoodBit, GoodTextBox}
 use Rattle.text_box.proofs.Back.{Below, Bounded, Set, fits, fits-column, numbers-stand, readText, textPlace, readLabel, readTable, tablePlace}
 use Rattle.text_box.proofs.Whole.{partsTaken, parts-read, the-text, the-label, the-lines}

@@ -3,9 +3,9 @@ use mathlib.Core.Path.{_≡_, refl}
 use mathlib.Core.List.{[], _∷_}
 use Prim.Native.Nat.{ℕ, _+_}
 use Rattle.core.specs.Bytes.{padding}
-use Rattle.text_box.specs.Parts.{present}
-use Rattle.text_box.specs.Written.{partsLayout}
-use Rattle.text_box.specs.declared.write.Layout.{Layout}
+use Rattle.text_box_read.specs.Parts.{present}
+use Rattle.text_box_write.specs.Written.{partsLayout}
+use Rattle.text_box_write.specs.declared.write.Layout.{Layout}
 
 -- at 8, one unit, a label of two bytes, one line: offsets 168, 172, 176; 101 bytes beyond the base's 76, 177 in all
 abbrev pub layout : Layout

@@ -1,9 +1,3 @@
-pub mod Run
-pub mod Came
-pub mod Surrogates
-pub mod Columns
-pub mod Captions
-pub mod Parted
 pub mod Cleared
 pub mod Same
 pub mod Shift

@@ -2,8 +2,8 @@
 use mathlib.Core.Path.{_≡_, sym, _∙_}
 use Prim.Native.Nat.{ℕ}
 use Rattle.core.specs.declared.cursor.ByteOrder.{ByteOrder}
-use Rattle.text_box.specs.Fixed.{encodeIndices, encodeStyle, encodeFont, encodeShadow, encodeFixed}
-use Rattle.text_box.specs.Written.{encodeTextBox, textBoxLength}
+use Rattle.text_box_write.specs.Fixed.{encodeIndices, encodeStyle, encodeFont, encodeShadow, encodeFixed}
+use Rattle.text_box_write.specs.Written.{encodeTextBox, textBoxLength}
 use Rattle.text_box.specs.Same.{Whole, SameTextBox}
 
 module _ (order : ByteOrder) (a b : Whole) (h : SameTextBox a b) where

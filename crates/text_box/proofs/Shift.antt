@@ -5,9 +5,9 @@ use Prim.Native.Nat.{ℕ, _+_, _-_, _%_, _≤_}
 use native.Mathlib.Omega.{arith}
 use Rattle.core.specs.declared.cursor.ByteOrder.{ByteOrder}
 use Rattle.core.proofs.Padding.{padding-shift}
-use Rattle.text_box.specs.declared.TextBoxPane.{TextBoxPane}
-use Rattle.text_box.specs.Parts.{placeOf, Part, absent, present, textPart, labelPart, linePart}
-use Rattle.text_box.specs.Written.{partOffset, labelWidth, lineWidth, textEnd, labelEnd, encodeLabel, encodeLines, partsEncoded, partsLength, encodeTextBox, textBoxLength}
+use Rattle.text_box_read.specs.declared.TextBoxPane.{TextBoxPane}
+use Rattle.text_box_read.specs.Parts.{placeOf, Part, absent, present, textPart, labelPart, linePart}
+use Rattle.text_box_write.specs.Written.{partOffset, labelWidth, lineWidth, textEnd, labelEnd, encodeLabel, encodeLines, partsEncoded, partsLength, encodeTextBox, textBoxLength}
 
 module _ (p : ℕ) (h : p % 4 ≡ 0) where
   shift-label-width : (q : ℕ) (name : Part) → labelWidth (p + q) name ≡ labelWidth q name

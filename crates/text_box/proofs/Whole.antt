@@ -12,16 +12,17 @@ use Rattle.core.proofs.Numbers.{length-bytes}
 use Rattle.core.proofs.Cursors.{pos-advanced, advanced-zero}
 use Rattle.core.proofs.Padding.{padding-small}
 use Rattle.core.proofs.Back.{Holds, split, holds-fits, length-all}
-use Rattle.text_box.specs.declared.FontMeasure.{FontMeasure}
-use Rattle.text_box.specs.declared.FontMeasure.the-variants as measure
-use Rattle.text_box.specs.declared.TextBoxPane.{TextBoxPane}
-use Rattle.text_box.specs.declared.TextBoxTaken.{TextBoxTaken}
-use Rattle.text_box.specs.Fixed.{measureKind, measureVector, encodeFixed}
-use Rattle.text_box.specs.Parts.{placeOf, Part, absent, present, textPart, labelPart, linePart, perCharacterChecked}
-use Rattle.text_box.specs.TextBox.{fontMeasureOf, assembled, textBoxTaken}
-use Rattle.text_box.specs.Written.{Few, textOffset, partOffset, textWidth, labelWidth, lineWidth, textEnd, labelEnd, encodeText, encodeLabel, encodeLines, partsEncoded, partsLength, encodeTextBox, textBoxLength}
-use Rattle.text_box.specs.Typed.{TypedTextBox}
-use Rattle.text_box.proofs.Columns.{length-column}
+use Rattle.text_box_read.specs.declared.FontMeasure.{FontMeasure}
+use Rattle.text_box_read.specs.declared.FontMeasure.the-variants as measure
+use Rattle.text_box_read.specs.declared.TextBoxPane.{TextBoxPane}
+use Rattle.text_box_read.specs.declared.TextBoxTaken.{TextBoxTaken}
+use Rattle.text_box_read.specs.Fixed.{measureKind, measureVector}
+use Rattle.text_box_write.specs.Fixed.{encodeFixed}
+use Rattle.text_box_read.specs.Parts.{placeOf, Part, absent, present, textPart, labelPart, linePart, perCharacterChecked}
+use Rattle.text_box_read.specs.TextBox.{fontMeasureOf, assembled, textBoxTaken}
+use Rattle.text_box_write.specs.Written.{Few, textOffset, partOffset, textWidth, labelWidth, lineWidth, textEnd, labelEnd, encodeText, encodeLabel, encodeLines, partsEncoded, partsLength, encodeTextBox, textBoxLength}
+use Rattle.text_box_read.specs.Typed.{TypedTextBox}
+use Rattle.text_box_write.proofs.Columns.{length-column}
 use Rattle.text_box.proofs.Cleared.{GoodText, GoodLabel, GoodLines}
 use Rattle.text_box.proofs.FixedBack.{length-fixed, FixedBack, fixed-back}
 use Rattle.text_box.proofs.Back.{Bounded, Set, and-none, readText, textPlace, readLabel, readTable, tablePlace, text-back, label-read, lines-read}

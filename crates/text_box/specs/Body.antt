@@ -15,12 +15,12 @@ use Rattle.core.specs.declared.checks.Written.{Written}
 use Rattle.pane.specs.Pane.{paneTaken, blankPane, encodePane}
 use Rattle.pane.specs.Checks.{textsChecked, namesChecked, reserveChecked}
 use Rattle.pane.specs.declared.Pane.{Pane}
-use Rattle.text_box.specs.Parts.{labelPart, textBoxUnits, textBoxLines}
-use Rattle.text_box.specs.TextBox.{textBoxTaken, blankTextBox}
-use Rattle.text_box.specs.Written.{encodeTextBox, textBoxLength}
+use Rattle.text_box_read.specs.Parts.{labelPart, textBoxUnits, textBoxLines}
+use Rattle.text_box_read.specs.TextBox.{textBoxTaken, blankTextBox}
+use Rattle.text_box_write.specs.Written.{encodeTextBox, textBoxLength}
 use Rattle.text_box.specs.Checks.{labelChecked, labelLengthChecked, labelNameChecked, textBoxChecked}
-use Rattle.text_box.specs.declared.TextBoxPane.{TextBoxPane}
-use Rattle.text_box.specs.declared.TextBoxTaken.{TextBoxTaken}
+use Rattle.text_box_read.specs.declared.TextBoxPane.{TextBoxPane}
+use Rattle.text_box_read.specs.declared.TextBoxTaken.{TextBoxTaken}
 use Rattle.text_box.specs.declared.body.TextBoxParsed.{TextBoxParsed}
 
 -- ---- read

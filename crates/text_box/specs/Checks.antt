@@ -12,13 +12,13 @@ use Rattle.unicode.specs.Utf8.{wellFormed}
 use Rattle.unicode.specs.Utf16.{utf16Of}
 use Rattle.unicode.specs.declared.utf16.Utf16.{Utf16}
 use Rattle.unicode.specs.declared.utf16.Utf16.the-variants.{WellFormed, Unpaired}
-use Rattle.text_box.specs.declared.Label.{Label}
-use Rattle.text_box.specs.declared.Label.the-variants as label
-use Rattle.text_box.specs.declared.LineTable.{LineTable}
-use Rattle.text_box.specs.declared.LineTable.the-variants as lines
-use Rattle.text_box.specs.declared.TextBoxPane.{TextBoxPane}
-use Rattle.text_box.specs.Parts.{Part, absent, present, textPart, linePart}
-use Rattle.text_box.specs.Caption.{labelOf}
+use Rattle.text_box_read.specs.declared.Label.{Label}
+use Rattle.text_box_read.specs.declared.Label.the-variants as label
+use Rattle.text_box_read.specs.declared.LineTable.{LineTable}
+use Rattle.text_box_read.specs.declared.LineTable.the-variants as lines
+use Rattle.text_box_read.specs.declared.TextBoxPane.{TextBoxPane}
+use Rattle.text_box_read.specs.Parts.{Part, absent, present, textPart, linePart}
+use Rattle.text_box_read.specs.Caption.{labelOf}
 
 -- 7: the label that was read is ill-formed UTF-8
 unfoldable pub labelChecked : Place → List ℕ → Label → Place

@@ -1,9 +1,3 @@
-pub mod Fixed
-pub mod Parts
-pub mod TextBox
-pub mod Written
-pub mod Caption
 pub mod Checks
 pub mod Same
-pub mod Typed
 pub mod Body

@@ -1,8 +1,5 @@
 // The body calls of a text box: any bytes are read or refused, any text box is written or refused.
-use crate::TextBoxPane;
 use crate::checks;
-use crate::parts;
-use crate::write;
 use core::checks::Parsed;
 use core::checks::Written;
 use core::cursor::ByteOrder;
@@ -13,13 +10,16 @@ use pane::Pane;
 use pane::checks::names_checked;
 use pane::checks::reserve_checked;
 use pane::checks::texts_checked;
+use text_box_read::TextBoxPane;
+use text_box_read::parts;
+use text_box_write::write;
 ghost use mathlib.Core.Path.{_≡_};
 ghost use Prim.Native.Nat.{_+_, _^_, _≤_, _<_};
 ghost use lib.ListN.{length};
 ghost use Rattle.core.specs.Bytes.{Room, Put};
 ghost use Rattle.core.specs.Checks.{endChecked};
 ghost use Rattle.pane.specs.Pane.{Sound};
-ghost use Rattle.text_box.specs.Written.{Small, textBoxLength};
+ghost use Rattle.text_box_write.specs.Written.{Small, textBoxLength};
 ghost use Rattle.text_box.specs.Body.{Blank, textBoxStart, Reads, encodeBody, textBoxWriteChecked, textBoxWritten, textBoxOutput};
 
 // What a body read gives: its answer, and the text box, blank where it was refused.
@@ -35,7 +35,7 @@ fn refused(why: Refusal) -> TextBoxParsed
     TextBoxParsed {
         answer: Parsed::Refused(why),
         base: pane::blank_pane(),
-        text_box: crate::blank_text_box(),
+        text_box: text_box_read::blank_text_box(),
     }
 }
 
@@ -54,7 +54,7 @@ pub fn read(
     let taken = pane::take_pane(order, data, p);
     let base = taken.pane;
     let p1 = taken.then;
-    let own = crate::measure_text_box(order, data, p1, place);
+    let own = text_box_read::measure_text_box(order, data, p1, place);
     let text_box = own.text_box;
     let label = text_box.label;
     let p2 = own.then;
@@ -127,7 +127,7 @@ fn write_checked(
 ) -> Place
     ensures { λ r. ⌜ r ≡ textBoxWriteChecked b x (now (units .entry)) (now (lines .entry)) (now (label .entry)) length place ⌝ }
 {
-    crate::typed_text_box(x);
+    text_box_read::typed_text_box(x);
     let name = x.label;
     let p1 = core::checks::length_checked(Place::At(Cursor::start(place)), length);
     let p2 = checks::label_length_checked(p1, name, label);
@@ -171,7 +171,7 @@ pub fn write(
     ensures { λ r. ⌜ r ≡ textBoxWritten b x (now (units .entry)) (now (lines .entry)) (now (label .entry)) (length (now (out .entry))) place ⌝ }
     ensures { λ _. ⌜ now (out .exit) ≡ textBoxOutput order b x (now (units .entry)) (now (lines .entry)) (now (label .entry)) (now (out .entry)) place ⌝ }
 {
-    crate::typed_text_box(x);
+    text_box_read::typed_text_box(x);
     let p = write_checked(b, x, units, lines, label, out.len(), place);
     match p {
         Place::At(_) => {

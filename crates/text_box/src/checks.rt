@@ -1,17 +1,17 @@
 // The checks of a text box: 7 of a label that was read; 1, 9, 11, 13, 14 and 15 of one to write. The lists and the label of an absent part are not looked at.
-use crate::Label;
-use crate::LineTable;
-use crate::Text;
-use crate::TextBoxPane;
 use core::checks;
 use core::cursor;
 use core::cursor::Place;
 use core::error::Refusal;
 use core::text;
+use text_box_read::Label;
+use text_box_read::LineTable;
+use text_box_read::Text;
+use text_box_read::TextBoxPane;
 use unicode::utf16::Utf16;
 ghost use mathlib.Core.Path.{_≡_};
 ghost use lib.ListN.{length};
-ghost use Rattle.text_box.specs.Parts.{textPart, labelPart, linePart};
+ghost use Rattle.text_box_read.specs.Parts.{textPart, labelPart, linePart};
 ghost use Rattle.text_box.specs.Checks.{labelChecked, labelLengthChecked, labelBad, labelNameChecked, linesBad, unitsBad, bitBad, utf16Checked, textBoxChecked};
 
 // 7, of a label that was read.
@@ -21,7 +21,7 @@ pub fn label_checked(p: Place, data: &[u8], label: Label) -> Place
     match label {
         Label::Absent => p,
         Label::At { place, length: _ } => {
-            let bytes = crate::caption::label(data, label);
+            let bytes = text_box_read::caption::label(data, label);
             let formed = unicode::utf8::well_formed(bytes);
             cursor::stop_if(p, !formed, Refusal::IllFormedUtf8 { place, which: 3 })
         }

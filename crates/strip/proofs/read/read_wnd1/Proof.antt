@@ -6,7 +6,7 @@ use Rattle.strip.proofs.read.read_wnd1.Reads as reads
 use Rattle.strip.proofs.read.read_wnd1.Lts as lts
 use Rattle.alignment.proofs.blank_alignment.Reads as blank-alignment-reads
 use Rattle.picture.proofs.blank_picture.Reads as blank-picture-reads
-use Rattle.text_box.proofs.blank_text_box.Reads as blank-text-box-reads
+use Rattle.text_box_read.proofs.blank_text_box.Reads as blank-text-box-reads
 use Rattle.window.proofs.body.read.Reads as read-reads
 
 read-requires : tie.Need-read-requires

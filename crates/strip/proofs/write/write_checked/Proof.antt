@@ -15,7 +15,7 @@ use Rattle.strip.proofs.write.own_checked.Reads as own-checked-reads
 use Rattle.strip.proofs.write.own_length_checked.Reads as own-length-checked-reads
 use Rattle.strip.proofs.write.own_name_checked.Reads as own-name-checked-reads
 use Rattle.strip.proofs.write.section_end_checked.Reads as section-end-checked-reads
-use Rattle.text_box.proofs.typed_text_box.Reads as typed-text-box-reads
+use Rattle.text_box_read.proofs.typed_text_box.Reads as typed-text-box-reads
 
 typed-text-box-requires : tie.Need-typed-text-box-requires
 typed-text-box-requires c κs = search needs

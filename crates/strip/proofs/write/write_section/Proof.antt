@@ -12,7 +12,7 @@ use Rattle.strip.proofs.write.write_section.Reads as reads
 use Rattle.strip.proofs.write.write_section.Lts as lts
 use Rattle.strip.proofs.write.put_section.Reads as put-section-reads
 use Rattle.strip.proofs.write.write_checked.Reads as write-checked-reads
-use Rattle.text_box.proofs.typed_text_box.Reads as typed-text-box-reads
+use Rattle.text_box_read.proofs.typed_text_box.Reads as typed-text-box-reads
 
 typed-text-box-requires : tie.Need-typed-text-box-requires
 typed-text-box-requires c κs = search needs

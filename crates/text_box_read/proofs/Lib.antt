@@ -1,0 +1,5 @@
+pub mod Run
+pub mod Came
+pub mod Surrogates
+pub mod Pairs
+pub mod Captions

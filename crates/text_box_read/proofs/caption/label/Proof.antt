@@ -1,0 +1,74 @@
+use Rattle.text_box_read.proofs.Captions.{inside, beyond, outside, label-got, label-none}
+use mathlib.Core.Logic.{⊎-elim}
+use borrow.Author.Needs.{needs}
+use Rattle.text_box_read.proofs.caption.label.Statement.{statement}
+use Rattle.text_box_read.proofs.caption.label.Tie as tie
+
+enum-told : tie.Need-enum-told
+enum-told c = search needs
+
+sub-result : tie.Need-sub-result
+sub-result c = search needs
+
+part-result-start : tie.Need-part-result-start
+part-result-start c = search needs
+
+part-result-end : tie.Need-part-result-end
+part-result-end c = search needs
+
+enum-known-l : tie.Need-enum-known-l
+enum-known-l c = search needs
+
+sub-if2 : tie.Need-sub-if2
+sub-if2 c = search needs
+
+add-result : tie.Need-add-result
+add-result c = search needs
+
+sub-result-2 : tie.Need-sub-result-2
+sub-result-2 c = search needs
+
+part-result-start-2 : tie.Need-part-result-start-2
+part-result-start-2 c = search needs
+
+part-result-end-2 : tie.Need-part-result-end-2
+part-result-end-2 c = search needs
+
+returns : tie.Need-returns
+returns c = let s = c .before .before .before .before .before .before .args .«data» .now in label-got s _ _ _ (c .before .before .before .before .l .given .1) (inside s _ _ (c .before .before .if1 .taken) (c .before .if2 .taken))
+
+sub-result-3 : tie.Need-sub-result-3
+sub-result-3 c = search needs
+
+part-result-start-3 : tie.Need-part-result-start-3
+part-result-start-3 c = search needs
+
+part-result-end-3 : tie.Need-part-result-end-3
+part-result-end-3 c = search needs
+
+returns-2 : tie.Need-returns-2
+returns-2 c = search needs
+
+returns-3 : tie.Need-returns-3
+returns-3 c = let s = c .before .before .before .before .before .args .«data» .now in ⊎-elim (λ w. label-none s _ _ _ (c .before .before .before .l .given .1) (beyond s _ _ (w .0 .taken) (w .1 .left))) (λ w. label-none s _ _ _ (c .before .before .before .l .given .1) (outside s _ _ (w .left))) (c .before .if1 .came)
+
+pub label-spec : {M : Type 1} → statement M
+label-spec =
+    tie.close
+    (tie.spec
+    enum-told
+    sub-result
+    part-result-start
+    part-result-end
+    enum-known-l
+    sub-if2
+    add-result
+    sub-result-2
+    part-result-start-2
+    part-result-end-2
+    returns
+    sub-result-3
+    part-result-start-3
+    part-result-end-3
+    returns-2
+    returns-3)

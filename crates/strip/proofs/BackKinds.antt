@@ -38,10 +38,10 @@ use Rattle.text_box_read.specs.declared.TextBoxPane.{TextBoxPane}
 use Rattle.text_box_read.specs.declared.TextBoxTaken.{TextBoxTaken}
 use Rattle.text_box_read.proofs.Pairs.{length-pairs}
 use Rattle.text_box.proofs.Equal as text-box-laws
-use Rattle.window.specs.Window.{blankWindow, windowTaken, windowQuads, windowFrames}
-use Rattle.window.specs.Write.{encodeWindow}
+use Rattle.window_read.specs.Window.{blankWindow, windowTaken, windowQuads, windowFrames}
+use Rattle.window_write.specs.Write.{encodeWindow}
 use Rattle.window.specs.Body as window
-use Rattle.window.specs.declared.WindowPane.{WindowPane}
+use Rattle.window_read.specs.declared.WindowPane.{WindowPane}
 use Rattle.window.proofs.Back as window-laws
 use Rattle.window.proofs.Fields.{readBackContent}
 use Rattle.alignment.specs.Alignment.{blankAlignment, encodeAlignment}

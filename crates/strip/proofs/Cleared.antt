@@ -21,7 +21,7 @@ use Rattle.picture.proofs.Cleared.{picture-cleared}
 use Rattle.text_box_read.specs.Parts.{labelPart}
 use Rattle.text_box_write.specs.Written.{Few}
 use Rattle.text_box.proofs.Cleared.{GoodLabel, GoodTextBox, label-length-cleared, label-name-cleared, text-box-early, text-box-cleared, small}
-use Rattle.window.specs.Write.{GoodWindow}
+use Rattle.window_write.specs.Write.{GoodWindow}
 use Rattle.window.proofs.Cleared.{window-cleared}
 use Rattle.strip.specs.Whole.{Lists, Whole}
 use Rattle.strip.specs.Read.{readStart, sizeBad}

@@ -22,7 +22,7 @@ use Rattle.picture.proofs.Cleared.{body-short}
 use Rattle.picture.specs.Body as picture
 use Rattle.text_box_write.specs.Written.{Small, textBoxLength}
 use Rattle.text_box.specs.Body as text-box
-use Rattle.window.specs.Write.{GoodWindow, windowLength, contentPadding}
+use Rattle.window_write.specs.Write.{GoodWindow, windowLength, contentPadding}
 use Rattle.window.specs.Body as window
 use Rattle.alignment.specs.Body as alignment
 use Rattle.strip.specs.Kinds.{letterBytes, lettersOf, kindOf}

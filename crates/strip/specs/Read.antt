@@ -23,7 +23,7 @@ use Rattle.picture.specs.declared.body.PictureParsed.{PictureParsed}
 use Rattle.text_box_read.specs.TextBox.{blankTextBox}
 use Rattle.text_box.specs.Body.{textBoxRead, unitsAfter, linesAfter}
 use Rattle.text_box.specs.declared.body.TextBoxParsed.{TextBoxParsed}
-use Rattle.window.specs.Window.{blankWindow}
+use Rattle.window_read.specs.Window.{blankWindow}
 use Rattle.window.specs.Body.{windowRead, readQuads, readFrames}
 use Rattle.window.specs.declared.body.WindowParsed.{WindowParsed}
 use Rattle.alignment.specs.Alignment.{blankAlignment}

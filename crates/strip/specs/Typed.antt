@@ -4,7 +4,7 @@ use mathlib.Core.List.{List, [], _∷_}
 use Rattle.pane.specs.Typed.{TypedPane}
 use Rattle.picture.specs.Typed.{TypedPicture}
 use Rattle.text_box_read.specs.Typed.{TypedTextBox}
-use Rattle.window.specs.Typed.{TypedWindow}
+use Rattle.window_read.specs.Typed.{TypedWindow}
 use Rattle.alignment.specs.Alignment.{TypedAlignment}
 use Rattle.strip.specs.Whole.{Whole}
 use Rattle.strip.specs.declared.record.Record.{Record}

@@ -15,7 +15,7 @@ use Rattle.text_box_read.specs.declared.Text.{Text}
 use Rattle.text_box_read.specs.declared.Text.the-variants as text
 use Rattle.text_box_read.specs.declared.LineTable.{LineTable}
 use Rattle.text_box_read.specs.declared.LineTable.the-variants as line
-use Rattle.window.specs.Window.{blankWindow}
+use Rattle.window_read.specs.Window.{blankWindow}
 use Rattle.window.specs.Same.{SameWindow}
 use Rattle.alignment.specs.Alignment.{blankAlignment}
 use Rattle.strip.specs.declared.kind.Kind.{Kind}

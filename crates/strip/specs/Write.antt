@@ -17,7 +17,7 @@ use Rattle.text_box_read.specs.Parts.{labelPart}
 use Rattle.text_box.specs.Checks.{labelLengthChecked, labelNameChecked, textBoxChecked}
 use Rattle.text_box_write.specs.Written.{Small, textBoxLength}
 use Rattle.text_box.specs.Body as text-box
-use Rattle.window.specs.Write.{windowChecked, GoodWindow}
+use Rattle.window_write.specs.Write.{windowChecked, GoodWindow}
 use Rattle.window.specs.Body as window
 use Rattle.alignment.specs.Body as alignment
 use Rattle.strip.specs.Kinds.{letterBytes, lengthOf}

@@ -21,12 +21,12 @@ use Rattle.pane.specs.declared.PaneTaken.{PaneTaken}
 use Rattle.pane.proofs.Run.{pane-stays}
 use Rattle.pane.proofs.Calls.{texts-stay}
 use Rattle.pane.proofs.Cleared.{Good, base-cleared}
-use Rattle.window.specs.Window.{windowTaken, windowQuads, windowFrames, Ahead}
-use Rattle.window.specs.Write.{windowChecked, windowLength, GoodWindow}
+use Rattle.window_read.specs.Window.{windowTaken, windowQuads, windowFrames, Ahead}
+use Rattle.window_write.specs.Write.{windowChecked, windowLength, GoodWindow}
 use Rattle.window.specs.Body.{Blank, ownTaken, readPlace, windowRead, readQuads, readFrames, readStart, windowParsed, parsedQuads, parsedFrames, bodyLength, windowWriteChecked}
-use Rattle.window.specs.declared.read.WindowTaken.{WindowTaken}
+use Rattle.window_read.specs.declared.read.WindowTaken.{WindowTaken}
 use Rattle.window.specs.declared.body.WindowParsed.{WindowParsed}
-use Rattle.window.proofs.Run.{window-stays, window-ahead}
+use Rattle.window_read.proofs.Run.{window-stays, window-ahead}
 use Rattle.window.proofs.Cleared.{window-cleared}
 
 -- ---- reading

@@ -10,7 +10,7 @@ use Rattle.core.specs.declared.cursor.Cursor.{Cursor}
 use Rattle.core.specs.declared.cursor.Place.{Place}
 use Rattle.core.specs.declared.cursor.Place.the-variants.{At}
 use Rattle.core.proofs.Runs.{cleared}
-use Rattle.window.specs.Write.{countChecked, flipsChecked, windowChecked, GoodFlips, GoodWindow}
+use Rattle.window_write.specs.Write.{countChecked, flipsChecked, windowChecked, GoodFlips, GoodWindow}
 
 or-false : (a b : Bool) → (a || b) ≡ false → (a ≡ false) × (b ≡ false)
 or-false true b e = (e, cc)

@@ -3,7 +3,7 @@ use mathlib.Core.Path.{_≡_, refl}
 use mathlib.Core.List.{[], _∷_}
 use Prim.Native.Nat.{_+_, _*_}
 use Rattle.core.specs.Bytes.{padding}
-use Rattle.window.specs.Write.{contentPadding, tableOffset, windowLength, frameOffsets}
+use Rattle.window_write.specs.Write.{contentPadding, tableOffset, windowLength, frameOffsets}
 
 -- at 8, one quad, two frames: 172 bytes, table at 164, frames at 172 and 176
 pub record At8 : Type 0 where

@@ -25,16 +25,16 @@ use Rattle.flags.specs.Fields.{windowFlagsNumber}
 use Rattle.flags.proofs.Fields.{window-flags-fit, window-flags-back}
 use Rattle.ui2d.specs.Typed.{TypedColors}
 use Rattle.ui2d.proofs.Colors.{length-colors, colors-at}
-use Rattle.window.specs.Window.{sidesTaken, headTaken, contentTaken, frameTaken, framesTaken}
-use Rattle.window.specs.Write.{GoodFlips, encodeSides, encodeBorders, encodeHead, encodeContent, frameOffsets, encodeFrame, encodeFrames}
-use Rattle.window.specs.Typed.{TypedWindow}
-use Rattle.window.specs.declared.WindowContent.{WindowContent}
-use Rattle.window.specs.declared.WindowPane.{WindowPane}
-use Rattle.window.specs.declared.read.SidesTaken.{SidesTaken}
-use Rattle.window.specs.declared.read.WindowHead.{WindowHead}
-use Rattle.window.specs.declared.read.HeadTaken.{HeadTaken}
-use Rattle.window.specs.declared.read.ContentTaken.{ContentTaken}
-use Rattle.window.specs.declared.read.FrameTaken.{FrameTaken}
+use Rattle.window_read.specs.Window.{sidesTaken, headTaken, contentTaken, frameTaken, framesTaken}
+use Rattle.window_write.specs.Write.{GoodFlips, encodeSides, encodeBorders, encodeHead, encodeContent, frameOffsets, encodeFrame, encodeFrames}
+use Rattle.window_read.specs.Typed.{TypedWindow}
+use Rattle.window_read.specs.declared.WindowContent.{WindowContent}
+use Rattle.window_read.specs.declared.WindowPane.{WindowPane}
+use Rattle.window_read.specs.declared.read.SidesTaken.{SidesTaken}
+use Rattle.window_read.specs.declared.read.WindowHead.{WindowHead}
+use Rattle.window_read.specs.declared.read.HeadTaken.{HeadTaken}
+use Rattle.window_read.specs.declared.read.ContentTaken.{ContentTaken}
+use Rattle.window_read.specs.declared.read.FrameTaken.{FrameTaken}
 use Rattle.window.proofs.Lengths.{length-sides, length-borders, length-frame}
 
 -- what reading a content that was written gives: the same, with the count of its quads

@@ -9,13 +9,13 @@ use Rattle.core.specs.declared.cursor.ByteOrder.{ByteOrder}
 use Rattle.core.proofs.Numbers.{length-bytes}
 use Rattle.core.proofs.Back.{length-all}
 use Rattle.ui2d.proofs.Colors.{length-colors}
-use Rattle.window.specs.Write.{windowLength, encodeSides, encodeBorders, encodeHead, encodeContent, frameOffsets, encodeFrame, encodeFrames, encodeWindow}
+use Rattle.window_write.specs.Write.{windowLength, encodeSides, encodeBorders, encodeHead, encodeContent, frameOffsets, encodeFrame, encodeFrames, encodeWindow}
 use Rattle.pane.specs.Pane.{Sound}
 use Rattle.pane.specs.declared.Pane.{Pane}
 use Rattle.pane.proofs.Back.{length-pane}
 use Rattle.window.specs.Body.{bodyLength, encodeBody}
-use Rattle.window.specs.declared.WindowContent.{WindowContent}
-use Rattle.window.specs.declared.WindowPane.{WindowPane}
+use Rattle.window_read.specs.declared.WindowContent.{WindowContent}
+use Rattle.window_read.specs.declared.WindowPane.{WindowPane}
 
 pub length-offsets : (first n : ℕ) → length (frameOffsets first n) ≡ n
 unfolding frameOffsets

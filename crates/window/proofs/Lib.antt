@@ -1,7 +1,3 @@
-pub mod Filling
-pub mod Signed
-pub mod Run
-pub mod Puts
 pub mod Cleared
 pub mod Same
 pub mod Lengths

@@ -7,11 +7,11 @@ use lib.ListN.{length}
 use Rattle.core.specs.Bytes.{padding}
 use Rattle.core.specs.declared.cursor.ByteOrder.{ByteOrder}
 use Rattle.core.proofs.Padding.{padding-shift}
-use Rattle.window.specs.Write.{contentPadding, tableOffset, windowLength, encodeBorders, encodeHead, encodeContent, encodeWindow}
+use Rattle.window_write.specs.Write.{contentPadding, tableOffset, windowLength, encodeBorders, encodeHead, encodeContent, encodeWindow}
 use Rattle.pane.specs.declared.Pane.{Pane}
 use Rattle.window.specs.Body.{bodyLength, encodeBody}
 use Rattle.window.specs.Same.{SameWindow}
-use Rattle.window.specs.declared.WindowPane.{WindowPane}
+use Rattle.window_read.specs.declared.WindowPane.{WindowPane}
 
 module _ (a : WindowPane) (q f : List ℕ) (b : WindowPane) (q′ f′ : List ℕ) (h : SameWindow a q f b q′ f′) where
   pub encode-same : (order : ByteOrder) (body : ℕ) → encodeWindow order body a q f ≡ encodeWindow order body b q′ f′

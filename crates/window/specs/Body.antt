@@ -14,10 +14,10 @@ use Rattle.core.specs.declared.checks.Written.{Written}
 use Rattle.pane.specs.Pane.{paneTaken, blankPane, encodePane}
 use Rattle.pane.specs.Checks.{textsChecked, namesChecked, reserveChecked}
 use Rattle.pane.specs.declared.Pane.{Pane}
-use Rattle.window.specs.Window.{windowTaken, windowQuads, windowFrames, blankWindow}
-use Rattle.window.specs.Write.{windowChecked, windowLength, encodeWindow}
-use Rattle.window.specs.declared.WindowPane.{WindowPane}
-use Rattle.window.specs.declared.read.WindowTaken.{WindowTaken}
+use Rattle.window_read.specs.Window.{windowTaken, windowQuads, windowFrames, blankWindow}
+use Rattle.window_write.specs.Write.{windowChecked, windowLength, encodeWindow}
+use Rattle.window_read.specs.declared.WindowPane.{WindowPane}
+use Rattle.window_read.specs.declared.read.WindowTaken.{WindowTaken}
 use Rattle.window.specs.declared.body.WindowParsed.{WindowParsed}
 
 -- what a refused read gives

@@ -1,5 +1,2 @@
-pub mod Window
-pub mod Write
 pub mod Body
 pub mod Same
-pub mod Typed

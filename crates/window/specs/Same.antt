@@ -2,7 +2,7 @@
 use mathlib.Core.Path.{_≡_}
 use Prim.Native.Nat.{ℕ}
 use mathlib.Core.List.{List}
-use Rattle.window.specs.declared.WindowPane.{WindowPane}
+use Rattle.window_read.specs.declared.WindowPane.{WindowPane}
 
 pub record SameWindow (a : WindowPane) (q f : List ℕ) (b : WindowPane) (q′ f′ : List ℕ) : Type 0 where
   pub «inflation_left» : a .«inflation_left» ≡ b .«inflation_left»

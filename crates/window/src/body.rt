@@ -1,10 +1,4 @@
 // The body calls of a window pane: any bytes are read or refused, any pane is written or refused.
-use crate::WindowPane;
-use crate::read::fill_window;
-use crate::read::measure_window;
-use crate::write::put_window;
-use crate::write::window_checked;
-use crate::write::window_length;
 use core::checks;
 use core::checks::Parsed;
 use core::checks::Written;
@@ -15,12 +9,18 @@ use pane::Pane;
 use pane::checks::names_checked;
 use pane::checks::reserve_checked;
 use pane::checks::texts_checked;
+use window_read::WindowPane;
+use window_read::read::fill_window;
+use window_read::read::measure_window;
+use window_write::write::put_window;
+use window_write::write::window_checked;
+use window_write::write::window_length;
 ghost use mathlib.Core.Path.{_≡_};
 ghost use Prim.Native.Nat.{_^_, _≤_, _<_};
 ghost use lib.ListN.{length};
 ghost use Rattle.core.specs.Bytes.{Room, Put};
 ghost use Rattle.pane.specs.Pane.{Sound};
-ghost use Rattle.window.specs.Write.{GoodWindow};
+ghost use Rattle.window_write.specs.Write.{GoodWindow};
 ghost use Rattle.window.specs.Body.{Blank, windowRead, readQuads, readFrames, windowParsed, parsedQuads, parsedFrames, windowWriteChecked, bodyLength, encodeBody, windowWritten, windowOutput};
 
 // What a body read gives: its answer, and the pane, blank where it was refused.
@@ -36,7 +36,7 @@ fn refused(why: Refusal) -> WindowParsed
     WindowParsed {
         answer: Parsed::Refused(why),
         base: pane::blank_pane(),
-        window: crate::blank_window(),
+        window: window_read::blank_window(),
     }
 }
 

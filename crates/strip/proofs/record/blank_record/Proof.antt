@@ -8,7 +8,7 @@ use Rattle.alignment.proofs.blank_alignment.Reads as blank-alignment-reads
 use Rattle.pane.proofs.blank_pane.Reads as blank-pane-reads
 use Rattle.picture.proofs.blank_picture.Reads as blank-picture-reads
 use Rattle.text_box_read.proofs.blank_text_box.Reads as blank-text-box-reads
-use Rattle.window.proofs.blank_window.Reads as blank-window-reads
+use Rattle.window_read.proofs.blank_window.Reads as blank-window-reads
 
 blank-pane-requires : tie.Need-blank-pane-requires
 blank-pane-requires c κs = search needs

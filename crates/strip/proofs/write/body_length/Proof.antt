@@ -8,7 +8,7 @@ use Rattle.strip.proofs.write.body_length.Reads as reads
 use Rattle.strip.proofs.write.body_length.Lts as lts
 use Rattle.picture.proofs.body.body_length.Reads as body-length-reads
 use Rattle.text_box_write.proofs.write.text_box_length.Reads as text-box-length-reads
-use Rattle.window.proofs.write.window_length.Reads as window-length-reads
+use Rattle.window_write.proofs.write.window_length.Reads as window-length-reads
 
 enum-told : tie.Need-enum-told
 enum-told c = search needs

@@ -10,7 +10,7 @@ use Rattle.strip.proofs.write.own_checked.Reads as reads
 use Rattle.strip.proofs.write.own_checked.Lts as lts
 use Rattle.picture.proofs.picture_checked.Reads as picture-checked-reads
 use Rattle.text_box.proofs.checks.text_box_checked.Reads as text-box-checked-reads
-use Rattle.window.proofs.write.window_checked.Reads as window-checked-reads
+use Rattle.window_write.proofs.write.window_checked.Reads as window-checked-reads
 
 enum-told : tie.Need-enum-told
 enum-told c = search needs

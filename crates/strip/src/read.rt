@@ -90,30 +90,27 @@ fn take_header(order: ByteOrder, data: &[u8], place: usize) -> Header
 fn refused(why: Refusal) -> SectionRead
     ensures { λ r. ⌜ r ≡ refusedWith why ⌝ }
 {
-    let record = crate::record::blank_record();
     SectionRead {
         answer: Section::Refused(why),
-        record,
+        record: crate::record::blank_record(),
     }
 }
 
 fn ended() -> SectionRead
     ensures { λ r. ⌜ r ≡ endedWith ⌝ }
 {
-    let record = crate::record::blank_record();
     SectionRead {
         answer: Section::End,
-        record,
+        record: crate::record::blank_record(),
     }
 }
 
 fn passed(next: usize) -> SectionRead
     ensures { λ r. ⌜ r ≡ passedWith next ⌝ }
 {
-    let record = crate::record::blank_record();
     SectionRead {
         answer: Section::Passed { next },
-        record,
+        record: crate::record::blank_record(),
     }
 }
 
@@ -126,19 +123,17 @@ fn read_pan1(order: ByteOrder, data: &[u8], p: Place, body: usize) -> BodyRead
     let read = pane::body::read(order, data, p, body);
     let answer = read.answer;
     let base = read.pane;
-    let picture = picture::blank_picture();
-    let text_box = text_box::blank_text_box();
-    let window = window::blank_window();
-    let alignment = alignment::blank_alignment();
-    let record = Record {
-        kind: Kind::Pan1,
-        base,
-        picture,
-        text_box,
-        window,
-        alignment,
-    };
-    BodyRead { answer, record }
+    BodyRead {
+        answer,
+        record: Record {
+            kind: Kind::Pan1,
+            base,
+            picture: picture::blank_picture(),
+            text_box: text_box::blank_text_box(),
+            window: window::blank_window(),
+            alignment: alignment::blank_alignment(),
+        },
+    }
 }
 
 fn read_pic1(order: ByteOrder, data: &[u8], p: Place, body: usize, quads: &mut [u32]) -> BodyRead
@@ -150,18 +145,17 @@ fn read_pic1(order: ByteOrder, data: &[u8], p: Place, body: usize, quads: &mut [
     let answer = read.answer;
     let base = read.base;
     let picture = read.picture;
-    let text_box = text_box::blank_text_box();
-    let window = window::blank_window();
-    let alignment = alignment::blank_alignment();
-    let record = Record {
-        kind: Kind::Pic1,
-        base,
-        picture,
-        text_box,
-        window,
-        alignment,
-    };
-    BodyRead { answer, record }
+    BodyRead {
+        answer,
+        record: Record {
+            kind: Kind::Pic1,
+            base,
+            picture,
+            text_box: text_box::blank_text_box(),
+            window: window::blank_window(),
+            alignment: alignment::blank_alignment(),
+        },
+    }
 }
 
 fn read_txt1(
@@ -181,18 +175,17 @@ fn read_txt1(
     let answer = read.answer;
     let base = read.base;
     let text_box = read.text_box;
-    let picture = picture::blank_picture();
-    let window = window::blank_window();
-    let alignment = alignment::blank_alignment();
-    let record = Record {
-        kind: Kind::Txt1,
-        base,
-        picture,
-        text_box,
-        window,
-        alignment,
-    };
-    BodyRead { answer, record }
+    BodyRead {
+        answer,
+        record: Record {
+            kind: Kind::Txt1,
+            base,
+            picture: picture::blank_picture(),
+            text_box,
+            window: window::blank_window(),
+            alignment: alignment::blank_alignment(),
+        },
+    }
 }
 
 fn read_wnd1(
@@ -212,18 +205,17 @@ fn read_wnd1(
     let answer = read.answer;
     let base = read.base;
     let window = read.window;
-    let picture = picture::blank_picture();
-    let text_box = text_box::blank_text_box();
-    let alignment = alignment::blank_alignment();
-    let record = Record {
-        kind: Kind::Wnd1,
-        base,
-        picture,
-        text_box,
-        window,
-        alignment,
-    };
-    BodyRead { answer, record }
+    BodyRead {
+        answer,
+        record: Record {
+            kind: Kind::Wnd1,
+            base,
+            picture: picture::blank_picture(),
+            text_box: text_box::blank_text_box(),
+            window,
+            alignment: alignment::blank_alignment(),
+        },
+    }
 }
 
 fn read_ali1(order: ByteOrder, data: &[u8], p: Place, body: usize) -> BodyRead
@@ -234,18 +226,17 @@ fn read_ali1(order: ByteOrder, data: &[u8], p: Place, body: usize) -> BodyRead
     let answer = read.answer;
     let base = read.base;
     let alignment = read.alignment;
-    let picture = picture::blank_picture();
-    let text_box = text_box::blank_text_box();
-    let window = window::blank_window();
-    let record = Record {
-        kind: Kind::Ali1,
-        base,
-        picture,
-        text_box,
-        window,
-        alignment,
-    };
-    BodyRead { answer, record }
+    BodyRead {
+        answer,
+        record: Record {
+            kind: Kind::Ali1,
+            base,
+            picture: picture::blank_picture(),
+            text_box: text_box::blank_text_box(),
+            window: window::blank_window(),
+            alignment,
+        },
+    }
 }
 
 // The body of a kind.

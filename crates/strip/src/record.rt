@@ -24,18 +24,13 @@ pub struct Record {
 pub fn blank_record() -> Record
     ensures { λ r. ⌜ r ≡ blankRecord ⌝ }
 {
-    let base = pane::blank_pane();
-    let picture = picture::blank_picture();
-    let text_box = text_box::blank_text_box();
-    let window = window::blank_window();
-    let alignment = alignment::blank_alignment();
     Record {
         kind: Kind::Pan1,
-        base,
-        picture,
-        text_box,
-        window,
-        alignment,
+        base: pane::blank_pane(),
+        picture: picture::blank_picture(),
+        text_box: text_box::blank_text_box(),
+        window: window::blank_window(),
+        alignment: alignment::blank_alignment(),
     }
 }
 

@@ -5,5 +5,6 @@ pub use window_read::WindowContent;
 pub use window_read::WindowFrame;
 pub use window_read::WindowPane;
 pub use window_read::blank_window;
+pub use window_read::read;
 pub use window_read::typed_window;
 pub use window_write::write;

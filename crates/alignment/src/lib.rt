@@ -1,6 +1,8 @@
 // What an alignment pane has beyond the base, 12 bytes, and its body calls.
 pub mod body;
 
+pub use body::parse;
+pub use body::write;
 use core::cursor;
 use core::cursor::ByteOrder;
 use core::cursor::Place;

@@ -2,6 +2,8 @@
 pub mod body;
 pub mod checks;
 
+pub use body::parse;
+pub use body::write;
 use core::cursor;
 use core::cursor::ByteOrder;
 use core::cursor::Place;

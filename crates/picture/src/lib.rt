@@ -1,6 +1,8 @@
 // What a picture pane has beyond the base: 20 bytes, its quads, and a shape index if it has one. The quads stand in a lent list of bits.
 pub mod body;
 
+pub use body::parse;
+pub use body::write;
 use core::cursor;
 use core::cursor::ByteOrder;
 use core::cursor::Place;

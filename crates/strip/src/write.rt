@@ -43,10 +43,8 @@ fn body_length(
     match kind {
         Kind::Pan1 => 76,
         Kind::Pic1 => picture::body::body_length(r.picture, quads),
-        Kind::Txt1 => {
-            76 + text_box::write::text_box_length(body, r.text_box, units, lines, label)
-        }
-        Kind::Wnd1 => 76 + window::write::window_length(body, quads.len(), frames.len()),
+        Kind::Txt1 => { 76 + text_box::text_box_length(body, r.text_box, units, lines, label) }
+        Kind::Wnd1 => 76 + window::window_length(body, quads.len(), frames.len()),
         Kind::Ali1 => 88,
     }
 }
@@ -68,7 +66,7 @@ fn own_checked(
         Kind::Pan1 => p,
         Kind::Pic1 => picture::picture_checked(p, quads),
         Kind::Txt1 => text_box::checks::text_box_checked(p, r.text_box, units, lines),
-        Kind::Wnd1 => window::write::window_checked(p, quads, frames),
+        Kind::Wnd1 => window::window_checked(p, quads, frames),
         Kind::Ali1 => p,
     }
 }

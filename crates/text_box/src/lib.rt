@@ -3,6 +3,8 @@ pub mod body;
 pub mod checks;
 pub mod fixed;
 
+pub use body::parse;
+pub use body::write;
 pub use text_box_read::FontMeasure;
 pub use text_box_read::Label;
 pub use text_box_read::LineTable;
@@ -15,4 +17,5 @@ pub use text_box_read::measure_text_box;
 pub use text_box_read::parts;
 pub use text_box_read::typed_text_box;
 pub use text_box_read::units;
-pub use text_box_write::write;
+pub use text_box_write::write::put_text_box;
+pub use text_box_write::write::text_box_length;

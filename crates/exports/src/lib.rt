@@ -1,0 +1,118 @@
+// The calls for C and Rust. A slice crosses as its pointer and its length; a record as the words of layout.rt; an answer as a number and three words.
+// Each call ends, whatever it is handed, and changes nothing where it does not answer PANE or WRITTEN, but for the answer's words.
+mod ali1;
+mod answers;
+mod base;
+mod bodies;
+mod bounds;
+mod calls;
+pub mod layout;
+mod pic1;
+mod records;
+mod txt1;
+mod wnd1;
+mod words;
+
+// The section at a place of data.
+#[no_mangle]
+pub extern "C" fn bidlomeqa_read_section(
+    data: &[u8],
+    place: usize,
+    quads: &mut [u32],
+    units: &mut [u16],
+    lines: &mut [u32],
+    frames: &mut [u16],
+    record: &mut [u64],
+    answer: &mut [u64],
+) -> u64 {
+    if answer.len() < layout::ANSWER_WORDS {
+        return layout::SHORT_ANSWER;
+    }
+    let x = calls::read_section(data, place, quads, units, lines, frames, record);
+    answers::give(answer, x)
+}
+
+// The body of a kind at a place of data.
+#[no_mangle]
+pub extern "C" fn bidlomeqa_read_body(
+    kind: u64,
+    data: &[u8],
+    place: usize,
+    quads: &mut [u32],
+    units: &mut [u16],
+    lines: &mut [u32],
+    frames: &mut [u16],
+    record: &mut [u64],
+    answer: &mut [u64],
+) -> u64 {
+    if answer.len() < layout::ANSWER_WORDS {
+        return layout::SHORT_ANSWER;
+    }
+    let x = calls::read_body(kind, data, place, quads, units, lines, frames, record);
+    answers::give(answer, x)
+}
+
+// The section of a record at a place of out.
+#[no_mangle]
+pub extern "C" fn bidlomeqa_write_section(
+    record: &[u64],
+    quads: &[u32],
+    units: &[u16],
+    lines: &[u32],
+    frames: &[u16],
+    label: &[u8],
+    out: &mut [u8],
+    place: usize,
+    answer: &mut [u64],
+) -> u64 {
+    if answer.len() < layout::ANSWER_WORDS {
+        return layout::SHORT_ANSWER;
+    }
+    let x = calls::write_section(record, quads, units, lines, frames, label, out, place);
+    answers::give(answer, x)
+}
+
+// The body of a record at a place of out.
+#[no_mangle]
+pub extern "C" fn bidlomeqa_write_body(
+    record: &[u64],
+    quads: &[u32],
+    units: &[u16],
+    lines: &[u32],
+    frames: &[u16],
+    label: &[u8],
+    out: &mut [u8],
+    place: usize,
+    answer: &mut [u64],
+) -> u64 {
+    if answer.len() < layout::ANSWER_WORDS {
+        return layout::SHORT_ANSWER;
+    }
+    let x = calls::write_body(record, quads, units, lines, frames, label, out, place);
+    answers::give(answer, x)
+}
+
+// Where the label of a record stands in data.
+#[no_mangle]
+pub extern "C" fn bidlomeqa_label(data: &[u8], record: &[u64], answer: &mut [u64]) -> u64 {
+    if answer.len() < layout::ANSWER_WORDS {
+        return layout::SHORT_ANSWER;
+    }
+    let x = calls::label(data, record);
+    answers::give(answer, x)
+}
+
+// The label in the strip, or the lent caption.
+#[no_mangle]
+pub extern "C" fn bidlomeqa_caption(
+    strip: &[u8],
+    record: &[u64],
+    lent: &[u8],
+    answer: &mut [u64],
+) -> u64 {
+    if answer.len() < layout::ANSWER_WORDS {
+        return layout::SHORT_ANSWER;
+    }
+    let x = calls::caption(strip, record, lent);
+    answers::give(answer, x)
+}

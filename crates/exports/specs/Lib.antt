@@ -1,2 +1,2 @@
-pub mod Words
-pub mod Below
+pub mod Answers
+pub mod Calls

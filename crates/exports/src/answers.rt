@@ -1,10 +1,13 @@
 // What a call returns, and its answer's words.
-use crate::layout;
 use core::checks::Written;
 use core::error::Refusal;
+use flat::layout;
 use strip::read::Section;
 ghost use Prim.Native.Nat.{_≤_};
 ghost use lib.ListN.{length};
+ghost use mathlib.Core.Path.{_≡_};
+ghost use Rattle.exports.specs.Answers.{shortRecord, badWord, refusedAnswer, sectionAnswer, writtenAnswer, partAnswer};
+ghost use Rattle.exports.specs.Calls.{returned, given};
 
 pub struct Answer {
     pub code: u64,
@@ -13,7 +16,9 @@ pub struct Answer {
     pub c: u64,
 }
 
-pub(crate) fn short_record() -> Answer {
+pub(crate) fn short_record() -> Answer
+    ensures { λ r. ⌜ r ≡ shortRecord ⌝ }
+{
     Answer {
         code: layout::SHORT_RECORD,
         a: layout::RECORD_WORDS as u64,
@@ -22,7 +27,9 @@ pub(crate) fn short_record() -> Answer {
     }
 }
 
-pub(crate) fn bad_word(index: usize) -> Answer {
+pub(crate) fn bad_word(index: usize) -> Answer
+    ensures { λ r. ⌜ r ≡ badWord index ⌝ }
+{
     Answer {
         code: layout::BAD_WORD,
         a: index as u64,
@@ -31,7 +38,9 @@ pub(crate) fn bad_word(index: usize) -> Answer {
     }
 }
 
-pub(crate) fn refused(why: Refusal) -> Answer {
+pub(crate) fn refused(why: Refusal) -> Answer
+    ensures { λ r. ⌜ r ≡ refusedAnswer why ⌝ }
+{
     let number = why.number();
     let a = why.a();
     let b = why.b();
@@ -43,7 +52,9 @@ pub(crate) fn refused(why: Refusal) -> Answer {
     }
 }
 
-pub(crate) fn section(s: Section) -> Answer {
+pub(crate) fn section(s: Section) -> Answer
+    ensures { λ r. ⌜ r ≡ sectionAnswer s ⌝ }
+{
     match s {
         Section::End => Answer {
             code: layout::END,
@@ -67,7 +78,9 @@ pub(crate) fn section(s: Section) -> Answer {
     }
 }
 
-pub(crate) fn written(w: Written) -> Answer {
+pub(crate) fn written(w: Written) -> Answer
+    ensures { λ r. ⌜ r ≡ writtenAnswer w ⌝ }
+{
     match w {
         Written::End(end) => Answer {
             code: layout::WRITTEN,
@@ -79,7 +92,9 @@ pub(crate) fn written(w: Written) -> Answer {
     }
 }
 
-pub(crate) fn part(which: u64, place: usize, length: usize) -> Answer {
+pub(crate) fn part(which: u64, place: usize, length: usize) -> Answer
+    ensures { λ r. ⌜ r ≡ partAnswer which place length ⌝ }
+{
     Answer {
         code: layout::PART,
         a: which,
@@ -91,6 +106,7 @@ pub(crate) fn part(which: u64, place: usize, length: usize) -> Answer {
 // The answer's words, and what the call returns.
 pub(crate) fn give(answer: &mut [u64], x: Answer) -> u64
     requires { ⌜ 3 ≤ length (now answer) ⌝ }
+    ensures { λ r. ⌜ returned r (now (answer .exit)) ≡ given x (now (answer .entry)) ⌝ }
 {
     answer[0] = x.a;
     answer[1] = x.b;

@@ -5,8 +5,16 @@ use core::cursor::ByteOrder;
 use strip::kind::Kind;
 use strip::read::BodyRead;
 use strip::record::Record;
+ghost use mathlib.Core.Path.{_≡_};
+ghost use mathlib.Core.List.{[]};
+ghost use lib.ListN.{length};
+ghost use Rattle.picture.specs.Body.{quadsParsed};
+ghost use Rattle.strip.specs.Whole.{lists, noLists, whole};
+ghost use Rattle.exports.specs.Calls.{bodyParsed, bodyLists, bodyAnswer, bodyOutput};
 
-fn parse_pan1(data: &[u8], place: usize) -> BodyRead {
+fn parse_pan1(data: &[u8], place: usize) -> BodyRead
+    ensures { λ r. ⌜ r ≡ bodyParsed Kind.Pan1 (now («data» .entry)) place noLists ⌝ }
+{
     let read = pane::body::parse(ByteOrder::Little, data, place);
     let answer = read.answer;
     let base = read.pane;
@@ -25,7 +33,10 @@ fn parse_pan1(data: &[u8], place: usize) -> BodyRead {
     BodyRead { answer, record }
 }
 
-fn parse_pic1(data: &[u8], place: usize, quads: &mut [u32]) -> BodyRead {
+fn parse_pic1(data: &[u8], place: usize, quads: &mut [u32]) -> BodyRead
+    ensures { λ r. ⌜ r ≡ bodyParsed Kind.Pic1 (now («data» .entry)) place (lists (now (quads .entry)) [] [] []) ⌝ }
+    ensures { λ _. ⌜ now (quads .exit) ≡ quadsParsed ByteOrder.Little (now («data» .entry)) place (now (quads .entry)) ⌝ }
+{
     let read = picture::body::parse(ByteOrder::Little, data, place, quads);
     let answer = read.answer;
     let base = read.base;
@@ -44,7 +55,10 @@ fn parse_pic1(data: &[u8], place: usize, quads: &mut [u32]) -> BodyRead {
     BodyRead { answer, record }
 }
 
-fn parse_txt1(data: &[u8], place: usize, units: &mut [u16], lines: &mut [u32]) -> BodyRead {
+fn parse_txt1(data: &[u8], place: usize, units: &mut [u16], lines: &mut [u32]) -> BodyRead
+    ensures { λ r. ⌜ r ≡ bodyParsed Kind.Txt1 (now («data» .entry)) place (lists [] (now (units .entry)) (now (lines .entry)) []) ⌝ }
+    ensures { λ _. ⌜ lists [] (now (units .exit)) (now (lines .exit)) [] ≡ bodyLists Kind.Txt1 (now («data» .entry)) place (lists [] (now (units .entry)) (now (lines .entry)) []) ⌝ }
+{
     let read = text_box::body::parse(ByteOrder::Little, data, place, units, lines);
     let answer = read.answer;
     let base = read.base;
@@ -63,7 +77,10 @@ fn parse_txt1(data: &[u8], place: usize, units: &mut [u16], lines: &mut [u32]) -
     BodyRead { answer, record }
 }
 
-fn parse_wnd1(data: &[u8], place: usize, quads: &mut [u32], frames: &mut [u16]) -> BodyRead {
+fn parse_wnd1(data: &[u8], place: usize, quads: &mut [u32], frames: &mut [u16]) -> BodyRead
+    ensures { λ r. ⌜ r ≡ bodyParsed Kind.Wnd1 (now («data» .entry)) place (lists (now (quads .entry)) [] [] (now (frames .entry))) ⌝ }
+    ensures { λ _. ⌜ lists (now (quads .exit)) [] [] (now (frames .exit)) ≡ bodyLists Kind.Wnd1 (now («data» .entry)) place (lists (now (quads .entry)) [] [] (now (frames .entry))) ⌝ }
+{
     let read = window::body::parse(ByteOrder::Little, data, place, quads, frames);
     let answer = read.answer;
     let base = read.base;
@@ -82,7 +99,9 @@ fn parse_wnd1(data: &[u8], place: usize, quads: &mut [u32], frames: &mut [u16]) 
     BodyRead { answer, record }
 }
 
-fn parse_ali1(data: &[u8], place: usize) -> BodyRead {
+fn parse_ali1(data: &[u8], place: usize) -> BodyRead
+    ensures { λ r. ⌜ r ≡ bodyParsed Kind.Ali1 (now («data» .entry)) place noLists ⌝ }
+{
     let read = alignment::body::parse(ByteOrder::Little, data, place);
     let answer = read.answer;
     let base = read.base;
@@ -110,7 +129,10 @@ pub(crate) fn parse(
     units: &mut [u16],
     lines: &mut [u32],
     frames: &mut [u16],
-) -> BodyRead {
+) -> BodyRead
+    ensures { λ r. ⌜ r ≡ bodyParsed kind (now («data» .entry)) place (lists (now (quads .entry)) (now (units .entry)) (now (lines .entry)) (now (frames .entry))) ⌝ }
+    ensures { λ _. ⌜ lists (now (quads .exit)) (now (units .exit)) (now (lines .exit)) (now (frames .exit)) ≡ bodyLists kind (now («data» .entry)) place (lists (now (quads .entry)) (now (units .entry)) (now (lines .entry)) (now (frames .entry))) ⌝ }
+{
     match kind {
         Kind::Pan1 => parse_pan1(data, place),
         Kind::Pic1 => parse_pic1(data, place, quads),
@@ -130,7 +152,10 @@ pub(crate) fn write(
     label: &[u8],
     out: &mut [u8],
     place: usize,
-) -> Written {
+) -> Written
+    ensures { λ a. ⌜ a ≡ bodyAnswer (r .kind) (whole r (now (quads .entry)) (now (units .entry)) (now (lines .entry)) (now (frames .entry)) (now (label .entry))) (length (now (out .entry))) place ⌝ }
+    ensures { λ _. ⌜ now (out .exit) ≡ bodyOutput (r .kind) (whole r (now (quads .entry)) (now (units .entry)) (now (lines .entry)) (now (frames .entry)) (now (label .entry))) (now (out .entry)) place ⌝ }
+{
     let kind = r.kind;
     let base = r.base;
     let order = ByteOrder::Little;

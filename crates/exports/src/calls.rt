@@ -2,25 +2,30 @@
 use crate::answers;
 use crate::answers::Answer;
 use crate::bodies;
-use crate::bounds;
-use crate::bounds::Checked;
-use crate::layout;
-use crate::records;
-use crate::txt1;
 use core::checks::Parsed;
 use core::cursor::ByteOrder;
+use flat::bounds;
+use flat::bounds::Checked;
+use flat::layout;
+use flat::records;
+use flat::txt1;
 use strip::kind::Kind;
 use strip::read::Section;
 use strip::record::Record;
 use text_box::Label;
 ghost use Prim.Native.Nat.{_≤_};
 ghost use lib.ListN.{length};
+ghost use mathlib.Core.Path.{_≡_};
+ghost use Rattle.strip.specs.Whole.{Lists, lists};
+ghost use Rattle.flat.specs.Below.{wordsChecked};
+ghost use Rattle.exports.specs.Calls.{readOutcome, delivered, sectionOutcome, bodySection, bodyOutcome, writeOutcome, sectionWritten, bodyWritten, labelOfWords, labelPart, captionPart, labelOutcome, captionOutcome};
 
 // ---- reads
 
 // The record's words are stored where a pane was read.
 fn deliver(words: &mut [u64], s: Section, r: Record) -> Answer
     requires { ⌜ 116 ≤ length (now words) ⌝ }
+    ensures { λ a. ⌜ ((l : Lists) → readOutcome a (now (words .exit)) l ≡ delivered s r (now (words .entry)) l) ⌝ }
 {
     let x = answers::section(s);
     match s {
@@ -42,7 +47,9 @@ pub(crate) fn read_section(
     lines: &mut [u32],
     frames: &mut [u16],
     words: &mut [u64],
-) -> Answer {
+) -> Answer
+    ensures { λ a. ⌜ readOutcome a (now (words .exit)) (lists (now (quads .exit)) (now (units .exit)) (now (lines .exit)) (now (frames .exit))) ≡ sectionOutcome (now («data» .entry)) place (lists (now (quads .entry)) (now (units .entry)) (now (lines .entry)) (now (frames .entry))) (now (words .entry)) ⌝ }
+{
     if words.len() < layout::RECORD_WORDS {
         return answers::short_record();
     }
@@ -61,7 +68,9 @@ pub(crate) fn read_section(
 }
 
 // As a section whose next place is 0.
-fn body_section(x: Parsed) -> Section {
+fn body_section(x: Parsed) -> Section
+    ensures { λ r. ⌜ r ≡ bodySection x ⌝ }
+{
     match x {
         Parsed::Read { end } => Section::Pane { end, next: 0 },
         Parsed::Refused(why) => Section::Refused(why),
@@ -77,7 +86,9 @@ pub(crate) fn read_body(
     lines: &mut [u32],
     frames: &mut [u16],
     words: &mut [u64],
-) -> Answer {
+) -> Answer
+    ensures { λ a. ⌜ readOutcome a (now (words .exit)) (lists (now (quads .exit)) (now (units .exit)) (now (lines .exit)) (now (frames .exit))) ≡ bodyOutcome kind (now («data» .entry)) place (lists (now (quads .entry)) (now (units .entry)) (now (lines .entry)) (now (frames .entry))) (now (words .entry)) ⌝ }
+{
     if words.len() < layout::RECORD_WORDS {
         return answers::short_record();
     }
@@ -97,6 +108,7 @@ pub(crate) fn read_body(
 // The words' bounds.
 fn record_checked(words: &[u64]) -> Checked
     requires { ⌜ 116 ≤ length (now words) ⌝ }
+    ensures { λ r. ⌜ r ≡ wordsChecked (now (words .entry)) ⌝ }
 {
     let kind = records::kind_of(words[layout::KIND]);
     bounds::words_checked(words, kind)
@@ -111,7 +123,9 @@ pub(crate) fn write_section(
     label: &[u8],
     out: &mut [u8],
     place: usize,
-) -> Answer {
+) -> Answer
+    ensures { λ a. ⌜ writeOutcome a (now (out .exit)) ≡ sectionWritten (now (words .entry)) (lists (now (quads .entry)) (now (units .entry)) (now (lines .entry)) (now (frames .entry))) (now (label .entry)) (now (out .entry)) place ⌝ }
+{
     if words.len() < layout::RECORD_WORDS {
         return answers::short_record();
     }
@@ -147,7 +161,9 @@ pub(crate) fn write_body(
     label: &[u8],
     out: &mut [u8],
     place: usize,
-) -> Answer {
+) -> Answer
+    ensures { λ a. ⌜ writeOutcome a (now (out .exit)) ≡ bodyWritten (now (words .entry)) (lists (now (quads .entry)) (now (units .entry)) (now (lines .entry)) (now (frames .entry))) (now (label .entry)) (now (out .entry)) place ⌝ }
+{
     if words.len() < layout::RECORD_WORDS {
         return answers::short_record();
     }
@@ -168,6 +184,7 @@ pub(crate) fn write_body(
 // A record that is no txt1 has no label.
 fn label_of(words: &[u64]) -> Label
     requires { ⌜ 116 ≤ length (now words) ⌝ }
+    ensures { λ r. ⌜ r ≡ labelOfWords (now (words .entry)) ⌝ }
 {
     if words[layout::KIND] == 2 {
         txt1::label_of(words)
@@ -176,14 +193,16 @@ fn label_of(words: &[u64]) -> Label
     }
 }
 
-// A part of so many bytes, or the empty part at 0.
-fn label_part(length: usize, l: Label) -> Answer {
+// Where the label stands; the empty part at 0 where it is absent, or where its place and length pass the strip.
+fn label_part(data: &[u8], l: Label) -> Answer
+    ensures { λ a. ⌜ a ≡ labelPart (now («data» .entry)) l ⌝ }
+{
     match l {
         Label::Absent => answers::part(0, 0, 0),
-        Label::At { place, length: n } => {
-            if place <= length {
-                if n <= length - place {
-                    return answers::part(0, place, n);
+        Label::At { place, length } => {
+            if place <= data.len() {
+                if length <= data.len() - place {
+                    return answers::part(0, place, length);
                 }
             }
             answers::part(0, 0, 0)
@@ -191,38 +210,50 @@ fn label_part(length: usize, l: Label) -> Answer {
     }
 }
 
-fn caption_part(length: usize, l: Label, lent: usize) -> Answer {
+fn caption_part(strip: &[u8], l: Label, lent: &[u8]) -> Answer
+    ensures { λ a. ⌜ a ≡ captionPart (now (strip .entry)) l (now (lent .entry)) ⌝ }
+{
     match l {
-        Label::Absent => answers::part(1, 0, lent),
-        Label::At { place, length: n } => {
-            if place <= length {
-                if n <= length - place {
-                    return answers::part(0, place, n);
+        Label::Absent => answers::part(1, 0, lent.len()),
+        Label::At { place, length } => {
+            if place <= strip.len() {
+                if length <= strip.len() - place {
+                    return answers::part(0, place, length);
                 }
             }
-            answers::part(1, 0, lent)
+            answers::part(1, 0, lent.len())
         }
     }
 }
 
-pub(crate) fn label(data: &[u8], words: &[u64]) -> Answer {
+pub(crate) fn label(data: &[u8], words: &[u64]) -> Answer
+    ensures { λ a. ⌜ a ≡ labelOutcome (now («data» .entry)) (now (words .entry)) ⌝ }
+{
     if words.len() < layout::RECORD_WORDS {
         return answers::short_record();
     }
     let c = record_checked(words);
     match c {
         Checked::Bad { index } => answers::bad_word(index),
-        Checked::Good => label_part(data.len(), label_of(words)),
+        Checked::Good => {
+            let l = label_of(words);
+            label_part(data, l)
+        }
     }
 }
 
-pub(crate) fn caption(strip: &[u8], words: &[u64], lent: &[u8]) -> Answer {
+pub(crate) fn caption(strip: &[u8], words: &[u64], lent: &[u8]) -> Answer
+    ensures { λ a. ⌜ a ≡ captionOutcome (now (strip .entry)) (now (words .entry)) (now (lent .entry)) ⌝ }
+{
     if words.len() < layout::RECORD_WORDS {
         return answers::short_record();
     }
     let c = record_checked(words);
     match c {
         Checked::Bad { index } => answers::bad_word(index),
-        Checked::Good => caption_part(strip.len(), label_of(words), lent.len()),
+        Checked::Good => {
+            let l = label_of(words);
+            caption_part(strip, l, lent)
+        }
     }
 }

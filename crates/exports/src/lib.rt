@@ -1,17 +1,10 @@
 // The calls for C and Rust. A slice crosses as its pointer and its length; a record as the words of layout.rt; an answer as a number and three words.
 // Each call ends, whatever it is handed, and changes nothing where it does not answer PANE or WRITTEN, but for the answer's words.
-mod ali1;
 mod answers;
-mod base;
 mod bodies;
-mod bounds;
 mod calls;
-pub mod layout;
-mod pic1;
-mod records;
-mod txt1;
-mod wnd1;
-mod words;
+
+use flat::layout;
 
 // The section at a place of data.
 #[no_mangle]

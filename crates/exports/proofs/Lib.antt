@@ -1,2 +1,0 @@
-mod Storing
-mod Scanning

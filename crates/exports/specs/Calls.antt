@@ -140,14 +140,16 @@ bodyParsed Ali1 s body l =
     }
 
 -- the lists after it
+abbrev pub unitsParsed : List ℕ → ℕ → List ℕ → List ℕ → List ℕ
+unitsParsed s body units lines = unitsAfter Little s (textBoxStart (length s) (length units) (length lines) body) body units
+
+abbrev pub linesParsed : List ℕ → ℕ → List ℕ → List ℕ → List ℕ
+linesParsed s body units lines = linesAfter Little s (textBoxStart (length s) (length units) (length lines) body) body lines
+
 unfoldable pub bodyLists : Kind → List ℕ → ℕ → Lists → Lists
 bodyLists Pan1 s body l = l
 bodyLists Pic1 s body l = lists (quadsParsed Little s body (l .quads)) (l .units) (l .lines) (l .frames)
-bodyLists Txt1 s body l =
-    lists (l .quads)
-    (unitsAfter Little s (textBoxStart (length s) (length (l .units)) (length (l .lines)) body) body (l .units))
-    (linesAfter Little s (textBoxStart (length s) (length (l .units)) (length (l .lines)) body) body (l .lines))
-    (l .frames)
+bodyLists Txt1 s body l = lists (l .quads) (unitsParsed s body (l .units) (l .lines)) (linesParsed s body (l .units) (l .lines)) (l .frames)
 bodyLists Wnd1 s body l =
     lists (parsedQuads Little s body (l .quads) (l .frames)) (l .units) (l .lines) (parsedFrames Little s body (l .quads) (l .frames))
 bodyLists Ali1 s body l = l
@@ -273,3 +275,23 @@ seenWrite x a o = cond (ltb (length a) 3) (writeSeen (returned 7 a) o) (writeSee
 
 unfoldable pub seenPart : Answer → List ℕ → Returned
 seenPart x a = cond (ltb (length a) 3) (returned 7 a) (given x a)
+
+-- ---- THE SIX CALLS, of what is lent: bytes s, a place, lists l, the record's words w, the answer's words a
+
+abbrev pub readSectionCall : List ℕ → ℕ → Lists → List ℕ → List ℕ → ReadSeen
+readSectionCall s p l w a = seenRead (sectionOutcome s p l w) a w l
+
+abbrev pub readBodyCall : ℕ → List ℕ → ℕ → Lists → List ℕ → List ℕ → ReadSeen
+readBodyCall k s body l w a = seenRead (bodyOutcome k s body l w) a w l
+
+abbrev pub writeSectionCall : List ℕ → Lists → List ℕ → List ℕ → ℕ → List ℕ → WriteSeen
+writeSectionCall w l label o p a = seenWrite (sectionWritten w l label o p) a o
+
+abbrev pub writeBodyCall : List ℕ → Lists → List ℕ → List ℕ → ℕ → List ℕ → WriteSeen
+writeBodyCall w l label o body a = seenWrite (bodyWritten w l label o body) a o
+
+abbrev pub labelCall : List ℕ → List ℕ → List ℕ → Returned
+labelCall s w a = seenPart (labelOutcome s w) a
+
+abbrev pub captionCall : List ℕ → List ℕ → List ℕ → List ℕ → Returned
+captionCall s w lent a = seenPart (captionOutcome s w lent) a

@@ -9,8 +9,9 @@ ghost use mathlib.Core.Path.{_≡_};
 ghost use mathlib.Core.List.{[]};
 ghost use lib.ListN.{length};
 ghost use Rattle.picture.specs.Body.{quadsParsed};
+ghost use Rattle.window.specs.Body.{parsedQuads, parsedFrames};
 ghost use Rattle.strip.specs.Whole.{lists, noLists, whole};
-ghost use Rattle.exports.specs.Calls.{bodyParsed, bodyLists, bodyAnswer, bodyOutput};
+ghost use Rattle.exports.specs.Calls.{bodyParsed, unitsParsed, linesParsed, bodyLists, bodyAnswer, bodyOutput};
 
 fn parse_pan1(data: &[u8], place: usize) -> BodyRead
     ensures { λ r. ⌜ r ≡ bodyParsed Kind.Pan1 (now («data» .entry)) place noLists ⌝ }
@@ -57,7 +58,7 @@ fn parse_pic1(data: &[u8], place: usize, quads: &mut [u32]) -> BodyRead
 
 fn parse_txt1(data: &[u8], place: usize, units: &mut [u16], lines: &mut [u32]) -> BodyRead
     ensures { λ r. ⌜ r ≡ bodyParsed Kind.Txt1 (now («data» .entry)) place (lists [] (now (units .entry)) (now (lines .entry)) []) ⌝ }
-    ensures { λ _. ⌜ lists [] (now (units .exit)) (now (lines .exit)) [] ≡ bodyLists Kind.Txt1 (now («data» .entry)) place (lists [] (now (units .entry)) (now (lines .entry)) []) ⌝ }
+    ensures { λ _. ⌜ (now (units .exit) ≡ unitsParsed (now («data» .entry)) place (now (units .entry)) (now (lines .entry))) × (now (lines .exit) ≡ linesParsed (now («data» .entry)) place (now (units .entry)) (now (lines .entry))) ⌝ }
 {
     let read = text_box::body::parse(ByteOrder::Little, data, place, units, lines);
     let answer = read.answer;
@@ -79,7 +80,7 @@ fn parse_txt1(data: &[u8], place: usize, units: &mut [u16], lines: &mut [u32]) -
 
 fn parse_wnd1(data: &[u8], place: usize, quads: &mut [u32], frames: &mut [u16]) -> BodyRead
     ensures { λ r. ⌜ r ≡ bodyParsed Kind.Wnd1 (now («data» .entry)) place (lists (now (quads .entry)) [] [] (now (frames .entry))) ⌝ }
-    ensures { λ _. ⌜ lists (now (quads .exit)) [] [] (now (frames .exit)) ≡ bodyLists Kind.Wnd1 (now («data» .entry)) place (lists (now (quads .entry)) [] [] (now (frames .entry))) ⌝ }
+    ensures { λ _. ⌜ (now (quads .exit) ≡ parsedQuads ByteOrder.Little (now («data» .entry)) place (now (quads .entry)) (now (frames .entry))) × (now (frames .exit) ≡ parsedFrames ByteOrder.Little (now («data» .entry)) place (now (quads .entry)) (now (frames .entry))) ⌝ }
 {
     let read = window::body::parse(ByteOrder::Little, data, place, quads, frames);
     let answer = read.answer;

@@ -27,15 +27,14 @@ fn deliver(words: &mut [u64], s: Section, r: Record) -> Answer
     requires { ⌜ 116 ≤ length (now words) ⌝ }
     ensures { λ a. ⌜ ((l : Lists) → readOutcome a (now (words .exit)) l ≡ delivered s r (now (words .entry)) l) ⌝ }
 {
-    let x = answers::section(s);
     match s {
-        Section::Pane { end: _, next: _ } => {
+        Section::End => answers::section(Section::End),
+        Section::Passed { next } => answers::section(Section::Passed { next }),
+        Section::Pane { end, next } => {
             records::put_record(words, r);
-            x
+            answers::section(Section::Pane { end, next })
         }
-        Section::End => x,
-        Section::Passed { next: _ } => x,
-        Section::Refused(_) => x,
+        Section::Refused(why) => answers::section(Section::Refused(why)),
     }
 }
 
@@ -200,12 +199,13 @@ fn label_part(data: &[u8], l: Label) -> Answer
     match l {
         Label::Absent => answers::part(0, 0, 0),
         Label::At { place, length } => {
-            if place <= data.len() {
-                if length <= data.len() - place {
-                    return answers::part(0, place, length);
-                }
+            if data.len() < place {
+                return answers::part(0, 0, 0);
             }
-            answers::part(0, 0, 0)
+            if data.len() - place < length {
+                return answers::part(0, 0, 0);
+            }
+            answers::part(0, place, length)
         }
     }
 }
@@ -216,12 +216,13 @@ fn caption_part(strip: &[u8], l: Label, lent: &[u8]) -> Answer
     match l {
         Label::Absent => answers::part(1, 0, lent.len()),
         Label::At { place, length } => {
-            if place <= strip.len() {
-                if length <= strip.len() - place {
-                    return answers::part(0, place, length);
-                }
+            if strip.len() < place {
+                return answers::part(1, 0, lent.len());
             }
-            answers::part(1, 0, lent.len())
+            if strip.len() - place < length {
+                return answers::part(1, 0, lent.len());
+            }
+            answers::part(0, place, length)
         }
     }
 }

@@ -5,6 +5,9 @@ mod bodies;
 mod calls;
 
 use flat::layout;
+ghost use mathlib.Core.Path.{_≡_};
+ghost use Rattle.strip.specs.Whole.{lists};
+ghost use Rattle.exports.specs.Calls.{returned, readSeen, writeSeen, readSectionCall, readBodyCall, writeSectionCall, writeBodyCall, labelCall, captionCall};
 
 // The section at a place of data.
 #[no_mangle]
@@ -17,7 +20,9 @@ pub extern "C" fn bidlomeqa_read_section(
     frames: &mut [u16],
     record: &mut [u64],
     answer: &mut [u64],
-) -> u64 {
+) -> u64
+    ensures { λ r. ⌜ readSeen (returned r (now (answer .exit))) (now («record» .exit)) (lists (now (quads .exit)) (now (units .exit)) (now (lines .exit)) (now (frames .exit))) ≡ readSectionCall (now («data» .entry)) place (lists (now (quads .entry)) (now (units .entry)) (now (lines .entry)) (now (frames .entry))) (now («record» .entry)) (now (answer .entry)) ⌝ }
+{
     if answer.len() < layout::ANSWER_WORDS {
         return layout::SHORT_ANSWER;
     }
@@ -37,7 +42,9 @@ pub extern "C" fn bidlomeqa_read_body(
     frames: &mut [u16],
     record: &mut [u64],
     answer: &mut [u64],
-) -> u64 {
+) -> u64
+    ensures { λ r. ⌜ readSeen (returned r (now (answer .exit))) (now («record» .exit)) (lists (now (quads .exit)) (now (units .exit)) (now (lines .exit)) (now (frames .exit))) ≡ readBodyCall kind (now («data» .entry)) place (lists (now (quads .entry)) (now (units .entry)) (now (lines .entry)) (now (frames .entry))) (now («record» .entry)) (now (answer .entry)) ⌝ }
+{
     if answer.len() < layout::ANSWER_WORDS {
         return layout::SHORT_ANSWER;
     }
@@ -57,7 +64,9 @@ pub extern "C" fn bidlomeqa_write_section(
     out: &mut [u8],
     place: usize,
     answer: &mut [u64],
-) -> u64 {
+) -> u64
+    ensures { λ r. ⌜ writeSeen (returned r (now (answer .exit))) (now (out .exit)) ≡ writeSectionCall (now («record» .entry)) (lists (now (quads .entry)) (now (units .entry)) (now (lines .entry)) (now (frames .entry))) (now (label .entry)) (now (out .entry)) place (now (answer .entry)) ⌝ }
+{
     if answer.len() < layout::ANSWER_WORDS {
         return layout::SHORT_ANSWER;
     }
@@ -77,7 +86,9 @@ pub extern "C" fn bidlomeqa_write_body(
     out: &mut [u8],
     place: usize,
     answer: &mut [u64],
-) -> u64 {
+) -> u64
+    ensures { λ r. ⌜ writeSeen (returned r (now (answer .exit))) (now (out .exit)) ≡ writeBodyCall (now («record» .entry)) (lists (now (quads .entry)) (now (units .entry)) (now (lines .entry)) (now (frames .entry))) (now (label .entry)) (now (out .entry)) place (now (answer .entry)) ⌝ }
+{
     if answer.len() < layout::ANSWER_WORDS {
         return layout::SHORT_ANSWER;
     }
@@ -87,7 +98,9 @@ pub extern "C" fn bidlomeqa_write_body(
 
 // Where the label of a record stands in data.
 #[no_mangle]
-pub extern "C" fn bidlomeqa_label(data: &[u8], record: &[u64], answer: &mut [u64]) -> u64 {
+pub extern "C" fn bidlomeqa_label(data: &[u8], record: &[u64], answer: &mut [u64]) -> u64
+    ensures { λ r. ⌜ returned r (now (answer .exit)) ≡ labelCall (now («data» .entry)) (now («record» .entry)) (now (answer .entry)) ⌝ }
+{
     if answer.len() < layout::ANSWER_WORDS {
         return layout::SHORT_ANSWER;
     }
@@ -102,7 +115,9 @@ pub extern "C" fn bidlomeqa_caption(
     record: &[u64],
     lent: &[u8],
     answer: &mut [u64],
-) -> u64 {
+) -> u64
+    ensures { λ r. ⌜ returned r (now (answer .exit)) ≡ captionCall (now (strip .entry)) (now («record» .entry)) (now (lent .entry)) (now (answer .entry)) ⌝ }
+{
     if answer.len() < layout::ANSWER_WORDS {
         return layout::SHORT_ANSWER;
     }

@@ -1,3 +1,6 @@
+use Rattle.core.specs.Bytes.{splice}
+use Rattle.exports.specs.Calls.{given}
+use mathlib.Core.Path.{refl}
 use lib.ListN.{length-set}
 use native.Mathlib.Omega.{arith}
 use borrow.Author.Needs.{needs}
@@ -19,7 +22,8 @@ same-length : tie.Need-same-length
 same-length c = search needs
 
 returns : tie.Need-returns
-returns c = search needs
+unfolding given splice
+returns c = refl
 
 pub give-spec : {M : Type 1} → statement M
 give-spec =

@@ -1,0 +1,297 @@
+-- THE CALLS: what a caller has after each, from what it lent.
+use Prim.Native.Nat.{ℕ}
+use mathlib.Core.Bool.{Bool, cond}
+use mathlib.Core.List.{List, []}
+use lib.ListN.{length, getD}
+use lib.Dec.{ltb, leb, eqb}
+use Rattle.core.specs.Bytes.{splice}
+use Rattle.core.specs.declared.cursor.ByteOrder.the-variants.{Little}
+use Rattle.core.specs.declared.checks.Parsed.{Parsed}
+use Rattle.core.specs.declared.checks.Parsed.the-variants as Parseds
+use Rattle.core.specs.declared.checks.Written.{Written}
+use Rattle.pane.specs.Body.{paneParsed, paneWritten, paneOutput}
+use Rattle.pane.specs.declared.body.PaneParsed.{PaneParsed}
+use Rattle.picture.specs.Picture.{blankPicture}
+use Rattle.picture.specs.Body.{pictureParsed, quadsParsed, pictureWritten, pictureOutput}
+use Rattle.picture.specs.declared.body.PictureParsed.{PictureParsed}
+use Rattle.text_box_read.specs.TextBox.{blankTextBox}
+use Rattle.text_box.specs.Body.{textBoxStart, textBoxRead, unitsAfter, linesAfter, textBoxWritten, textBoxOutput}
+use Rattle.text_box_read.specs.Caption.{within}
+use Rattle.text_box.specs.declared.body.TextBoxParsed.{TextBoxParsed}
+use Rattle.text_box_read.specs.declared.Label.{Label}
+use Rattle.text_box_read.specs.declared.Label.the-variants as label
+use Rattle.window_read.specs.Window.{blankWindow}
+use Rattle.window.specs.Body.{windowParsed, parsedQuads, parsedFrames, windowWritten, windowOutput}
+use Rattle.window.specs.declared.body.WindowParsed.{WindowParsed}
+use Rattle.alignment.specs.Alignment.{blankAlignment}
+use Rattle.alignment.specs.Body.{alignmentParsed, alignmentWritten, alignmentOutput}
+use Rattle.alignment.specs.declared.body.AlignmentParsed.{AlignmentParsed}
+use Rattle.strip.specs.Whole.{Lists, lists, Whole}
+use Rattle.strip.specs.Read.{readSection, listsAfter}
+use Rattle.strip.specs.Write.{writeAnswer, writeOutput}
+use Rattle.strip.specs.declared.kind.Kind.{Kind}
+use Rattle.strip.specs.declared.kind.Kind.the-variants.{Pan1, Pic1, Txt1, Wnd1, Ali1}
+use Rattle.strip.specs.declared.record.Record.{Record}
+use Rattle.strip.specs.declared.read.BodyRead.{BodyRead}
+use Rattle.strip.specs.declared.read.Section.{Section}
+use Rattle.strip.specs.declared.read.Section.the-variants as Sections
+use Rattle.strip.specs.declared.read.SectionRead.{SectionRead}
+use Rattle.flat.specs.Own.{labelAt}
+use Rattle.flat.specs.Records.{kindOf, recordWords, recordOf}
+use Rattle.flat.specs.Below.{wordsChecked}
+use Rattle.exports.specs.Answers.{answerWords, shortRecord, badWord, sectionAnswer, writtenAnswer, partAnswer}
+use Rattle.exports.specs.declared.answers.Answer.{Answer}
+use Rattle.flat.specs.declared.bounds.Checked.{Checked}
+use Rattle.flat.specs.declared.bounds.Checked.the-variants.{Good, Bad}
+
+-- ---- reads
+
+-- an answer, with the record's words and the lists after it
+pub record ReadOutcome : Type 0 where
+  pub answer : Answer
+  pub words : List ℕ
+  pub lists : Lists
+
+abbrev pub readOutcome : Answer → List ℕ → Lists → ReadOutcome
+readOutcome x w l = record { answer = x; words = w; lists = l }
+
+-- the words of a pane stand at the front; every other answer leaves them
+abbrev pub wordsAfter : Section → Record → List ℕ → List ℕ
+wordsAfter Sections.End r w = w
+wordsAfter (Sections.Passed next) r w = w
+wordsAfter (Sections.Pane end next) r w = splice w 0 (recordWords r)
+wordsAfter (Sections.Refused why) r w = w
+
+unfoldable pub delivered : Section → Record → List ℕ → Lists → ReadOutcome
+delivered s r w l = readOutcome (sectionAnswer s) (wordsAfter s r w) l
+
+-- the section at p of s; SHORT_RECORD before it
+unfoldable pub sectionOutcome : List ℕ → ℕ → Lists → List ℕ → ReadOutcome
+sectionOutcome s p l w =
+    let r : SectionRead = readSection Little s p l in
+    cond (ltb (length w) 116) (readOutcome shortRecord w l) (delivered (r .answer) (r .«record») w (listsAfter Little s p l))
+
+-- the body of a kind at B, as its body call reads it; what the other kinds have is blank
+unfoldable pub bodyParsed : Kind → List ℕ → ℕ → Lists → BodyRead
+bodyParsed Pan1 s body l =
+    let r : PaneParsed = paneParsed Little s body in
+    record {
+      answer = r .answer;
+      «record» = record {
+        kind = Pan1;
+        base = r .pane;
+        picture = blankPicture;
+        «text_box» = blankTextBox;
+        window = blankWindow;
+        alignment = blankAlignment;
+      };
+    }
+bodyParsed Pic1 s body l =
+    let r : PictureParsed = pictureParsed Little s body (length (l .quads)) in
+    record {
+      answer = r .answer;
+      «record» = record {
+        kind = Pic1;
+        base = r .base;
+        picture = r .picture;
+        «text_box» = blankTextBox;
+        window = blankWindow;
+        alignment = blankAlignment;
+      };
+    }
+bodyParsed Txt1 s body l =
+    let r : TextBoxParsed = textBoxRead Little s (textBoxStart (length s) (length (l .units)) (length (l .lines)) body) body in
+    record {
+      answer = r .answer;
+      «record» = record {
+        kind = Txt1;
+        base = r .base;
+        picture = blankPicture;
+        «text_box» = r .«text_box»;
+        window = blankWindow;
+        alignment = blankAlignment;
+      };
+    }
+bodyParsed Wnd1 s body l =
+    let r : WindowParsed = windowParsed Little s body (l .quads) (l .frames) in
+    record {
+      answer = r .answer;
+      «record» = record {
+        kind = Wnd1;
+        base = r .base;
+        picture = blankPicture;
+        «text_box» = blankTextBox;
+        window = r .window;
+        alignment = blankAlignment;
+      };
+    }
+bodyParsed Ali1 s body l =
+    let r : AlignmentParsed = alignmentParsed Little s body in
+    record {
+      answer = r .answer;
+      «record» = record {
+        kind = Ali1;
+        base = r .base;
+        picture = blankPicture;
+        «text_box» = blankTextBox;
+        window = blankWindow;
+        alignment = r .alignment;
+      };
+    }
+
+-- the lists after it
+abbrev pub unitsParsed : List ℕ → ℕ → List ℕ → List ℕ → List ℕ
+unitsParsed s body units lines = unitsAfter Little s (textBoxStart (length s) (length units) (length lines) body) body units
+
+abbrev pub linesParsed : List ℕ → ℕ → List ℕ → List ℕ → List ℕ
+linesParsed s body units lines = linesAfter Little s (textBoxStart (length s) (length units) (length lines) body) body lines
+
+unfoldable pub bodyLists : Kind → List ℕ → ℕ → Lists → Lists
+bodyLists Pan1 s body l = l
+bodyLists Pic1 s body l = lists (quadsParsed Little s body (l .quads)) (l .units) (l .lines) (l .frames)
+bodyLists Txt1 s body l = lists (l .quads) (unitsParsed s body (l .units) (l .lines)) (linesParsed s body (l .units) (l .lines)) (l .frames)
+bodyLists Wnd1 s body l =
+    lists (parsedQuads Little s body (l .quads) (l .frames)) (l .units) (l .lines) (parsedFrames Little s body (l .quads) (l .frames))
+bodyLists Ali1 s body l = l
+
+-- its answer as that of a section whose next place is 0
+abbrev pub bodySection : Parsed → Section
+bodySection (Parseds.Read end) = Sections.Pane end 0
+bodySection (Parseds.Refused why) = Sections.Refused why
+
+unfoldable pub bodyDelivered : Kind → List ℕ → ℕ → Lists → List ℕ → ReadOutcome
+bodyDelivered kind s body l w =
+    let b : BodyRead = bodyParsed kind s body l in
+    delivered (bodySection (b .answer)) (b .«record») w (bodyLists kind s body l)
+
+-- SHORT_RECORD, then BAD_WORD of the kind, then the body at B
+unfoldable pub bodyOutcome : ℕ → List ℕ → ℕ → Lists → List ℕ → ReadOutcome
+bodyOutcome k s body l w =
+    cond (ltb (length w) 116) (readOutcome shortRecord w l)
+    (cond (leb 5 k) (readOutcome (badWord 0) w l)
+    (bodyDelivered (kindOf k) s body l w))
+
+-- ---- writes
+
+-- an answer, with the output after it
+pub record WriteOutcome : Type 0 where
+  pub answer : Answer
+  pub out : List ℕ
+
+abbrev pub writeOutcome : Answer → List ℕ → WriteOutcome
+writeOutcome x o = record { answer = x; out = o }
+
+-- SHORT_RECORD, then BAD_WORD, and then x
+abbrev pub unlessBad : {A : Type 0} → Checked → (Answer → A) → A → A
+unlessBad Good bad x = x
+unlessBad (Bad i) bad x = bad (badWord i)
+
+unfoldable pub ofRecord : {A : Type 0} → List ℕ → (Answer → A) → A → A
+ofRecord w bad x = cond (ltb (length w) 116) (bad shortRecord) (unlessBad (wordsChecked w) bad x)
+
+-- the record of the words with its lists and label
+abbrev pub wholeOf : List ℕ → Lists → List ℕ → Whole
+wholeOf w l label = record { pane = recordOf w; lists = l; label = label }
+
+unfoldable pub sectionWritten : List ℕ → Lists → List ℕ → List ℕ → ℕ → WriteOutcome
+sectionWritten w l label o p =
+    ofRecord w (λ x. writeOutcome x o)
+    (writeOutcome (writtenAnswer (writeAnswer (wholeOf w l label) (length o) p)) (writeOutput Little (wholeOf w l label) o p))
+
+-- the body of a record at B, as its body call writes it
+unfoldable pub bodyAnswer : Kind → Whole → ℕ → ℕ → Written
+bodyAnswer Pan1 x n body = paneWritten (x .pane .base) n body
+bodyAnswer Pic1 x n body = pictureWritten (x .pane .base) (x .pane .picture) (x .lists .quads) n body
+bodyAnswer Txt1 x n body = textBoxWritten (x .pane .base) (x .pane .«text_box») (x .lists .units) (x .lists .lines) (x .label) n body
+bodyAnswer Wnd1 x n body = windowWritten (x .pane .base) (x .lists .quads) (x .lists .frames) n body
+bodyAnswer Ali1 x n body = alignmentWritten (x .pane .base) n body
+
+unfoldable pub bodyOutput : Kind → Whole → List ℕ → ℕ → List ℕ
+bodyOutput Pan1 x o body = paneOutput Little (x .pane .base) o body
+bodyOutput Pic1 x o body = pictureOutput Little (x .pane .base) (x .pane .picture) (x .lists .quads) o body
+bodyOutput Txt1 x o body = textBoxOutput Little (x .pane .base) (x .pane .«text_box») (x .lists .units) (x .lists .lines) (x .label) o body
+bodyOutput Wnd1 x o body = windowOutput Little (x .pane .base) (x .pane .window) (x .lists .quads) (x .lists .frames) o body
+bodyOutput Ali1 x o body = alignmentOutput Little (x .pane .base) (x .pane .alignment) o body
+
+unfoldable pub bodyWritten : List ℕ → Lists → List ℕ → List ℕ → ℕ → WriteOutcome
+bodyWritten w l label o body =
+    ofRecord w (λ x. writeOutcome x o)
+    (writeOutcome (writtenAnswer (bodyAnswer (recordOf w .kind) (wholeOf w l label) (length o) body)) (bodyOutput (recordOf w .kind) (wholeOf w l label) o body))
+
+-- ---- the label and the caption
+
+-- a record that is no txt1 has no label
+abbrev pub labelOfWords : List ℕ → Label
+labelOfWords w = cond (eqb (getD w 0 0) 2) (labelAt w) label.Absent
+
+-- where `labelOf` finds it: the empty part at 0 where it is absent, or where its place and length pass the strip
+abbrev pub labelPart : List ℕ → Label → Answer
+labelPart s label.Absent = partAnswer 0 0 0
+labelPart s (label.At place long) = cond (within s place long) (partAnswer 0 place long) (partAnswer 0 0 0)
+
+-- where `captionOf` finds it
+abbrev pub captionPart : List ℕ → Label → List ℕ → Answer
+captionPart s label.Absent lent = partAnswer 1 0 (length lent)
+captionPart s (label.At place long) lent = cond (within s place long) (partAnswer 0 place long) (partAnswer 1 0 (length lent))
+
+unfoldable pub labelOutcome : List ℕ → List ℕ → Answer
+labelOutcome s w = ofRecord w (λ x. x) (labelPart s (labelOfWords w))
+
+unfoldable pub captionOutcome : List ℕ → List ℕ → List ℕ → Answer
+captionOutcome s w lent = ofRecord w (λ x. x) (captionPart s (labelOfWords w) lent)
+
+-- ---- what the caller sees: the number returned and the answer's words beside the rest. SHORT_ANSWER comes before all
+
+pub record Returned : Type 0 where
+  pub code : ℕ
+  pub words : List ℕ
+
+abbrev pub returned : ℕ → List ℕ → Returned
+returned code a = record { code = code; words = a }
+
+unfoldable pub given : Answer → List ℕ → Returned
+given x a = returned (x .code) (splice a 0 (answerWords x))
+
+pub record ReadSeen : Type 0 where
+  pub back : Returned
+  pub words : List ℕ
+  pub lists : Lists
+
+abbrev pub readSeen : Returned → List ℕ → Lists → ReadSeen
+readSeen b w l = record { back = b; words = w; lists = l }
+
+unfoldable pub seenRead : ReadOutcome → List ℕ → List ℕ → Lists → ReadSeen
+seenRead o a w l = cond (ltb (length a) 3) (readSeen (returned 7 a) w l) (readSeen (given (o .answer) a) (o .words) (o .lists))
+
+pub record WriteSeen : Type 0 where
+  pub back : Returned
+  pub out : List ℕ
+
+abbrev pub writeSeen : Returned → List ℕ → WriteSeen
+writeSeen b o = record { back = b; out = o }
+
+unfoldable pub seenWrite : WriteOutcome → List ℕ → List ℕ → WriteSeen
+seenWrite x a o = cond (ltb (length a) 3) (writeSeen (returned 7 a) o) (writeSeen (given (x .answer) a) (x .out))
+
+unfoldable pub seenPart : Answer → List ℕ → Returned
+seenPart x a = cond (ltb (length a) 3) (returned 7 a) (given x a)
+
+-- ---- THE SIX CALLS, of what is lent: bytes s, a place, lists l, the record's words w, the answer's words a
+
+abbrev pub readSectionCall : List ℕ → ℕ → Lists → List ℕ → List ℕ → ReadSeen
+readSectionCall s p l w a = seenRead (sectionOutcome s p l w) a w l
+
+abbrev pub readBodyCall : ℕ → List ℕ → ℕ → Lists → List ℕ → List ℕ → ReadSeen
+readBodyCall k s body l w a = seenRead (bodyOutcome k s body l w) a w l
+
+abbrev pub writeSectionCall : List ℕ → Lists → List ℕ → List ℕ → ℕ → List ℕ → WriteSeen
+writeSectionCall w l label o p a = seenWrite (sectionWritten w l label o p) a o
+
+abbrev pub writeBodyCall : List ℕ → Lists → List ℕ → List ℕ → ℕ → List ℕ → WriteSeen
+writeBodyCall w l label o body a = seenWrite (bodyWritten w l label o body) a o
+
+abbrev pub labelCall : List ℕ → List ℕ → List ℕ → Returned
+labelCall s w a = seenPart (labelOutcome s w) a
+
+abbrev pub captionCall : List ℕ → List ℕ → List ℕ → List ℕ → Returned
+captionCall s w lent a = seenPart (captionOutcome s w lent) a

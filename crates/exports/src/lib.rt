@@ -1,0 +1,126 @@
+// The calls for C and Rust. A slice crosses as its pointer and its length; a record as the words of layout.rt; an answer as a number and three words.
+// Each call ends, whatever it is handed, and changes nothing where it does not answer PANE or WRITTEN, but for the answer's words.
+mod answers;
+mod bodies;
+mod calls;
+
+use flat::layout;
+ghost use mathlib.Core.Path.{_≡_};
+ghost use Rattle.strip.specs.Whole.{lists};
+ghost use Rattle.exports.specs.Calls.{returned, readSeen, writeSeen, readSectionCall, readBodyCall, writeSectionCall, writeBodyCall, labelCall, captionCall};
+
+// The section at a place of data.
+#[no_mangle]
+pub extern "C" fn bidlomeqa_read_section(
+    data: &[u8],
+    place: usize,
+    quads: &mut [u32],
+    units: &mut [u16],
+    lines: &mut [u32],
+    frames: &mut [u16],
+    record: &mut [u64],
+    answer: &mut [u64],
+) -> u64
+    ensures { λ r. ⌜ readSeen (returned r (now (answer .exit))) (now («record» .exit)) (lists (now (quads .exit)) (now (units .exit)) (now (lines .exit)) (now (frames .exit))) ≡ readSectionCall (now («data» .entry)) place (lists (now (quads .entry)) (now (units .entry)) (now (lines .entry)) (now (frames .entry))) (now («record» .entry)) (now (answer .entry)) ⌝ }
+{
+    if answer.len() < layout::ANSWER_WORDS {
+        return layout::SHORT_ANSWER;
+    }
+    let x = calls::read_section(data, place, quads, units, lines, frames, record);
+    answers::give(answer, x)
+}
+
+// The body of a kind at a place of data.
+#[no_mangle]
+pub extern "C" fn bidlomeqa_read_body(
+    kind: u64,
+    data: &[u8],
+    place: usize,
+    quads: &mut [u32],
+    units: &mut [u16],
+    lines: &mut [u32],
+    frames: &mut [u16],
+    record: &mut [u64],
+    answer: &mut [u64],
+) -> u64
+    ensures { λ r. ⌜ readSeen (returned r (now (answer .exit))) (now («record» .exit)) (lists (now (quads .exit)) (now (units .exit)) (now (lines .exit)) (now (frames .exit))) ≡ readBodyCall kind (now («data» .entry)) place (lists (now (quads .entry)) (now (units .entry)) (now (lines .entry)) (now (frames .entry))) (now («record» .entry)) (now (answer .entry)) ⌝ }
+{
+    if answer.len() < layout::ANSWER_WORDS {
+        return layout::SHORT_ANSWER;
+    }
+    let x = calls::read_body(kind, data, place, quads, units, lines, frames, record);
+    answers::give(answer, x)
+}
+
+// The section of a record at a place of out.
+#[no_mangle]
+pub extern "C" fn bidlomeqa_write_section(
+    record: &[u64],
+    quads: &[u32],
+    units: &[u16],
+    lines: &[u32],
+    frames: &[u16],
+    label: &[u8],
+    out: &mut [u8],
+    place: usize,
+    answer: &mut [u64],
+) -> u64
+    ensures { λ r. ⌜ writeSeen (returned r (now (answer .exit))) (now (out .exit)) ≡ writeSectionCall (now («record» .entry)) (lists (now (quads .entry)) (now (units .entry)) (now (lines .entry)) (now (frames .entry))) (now (label .entry)) (now (out .entry)) place (now (answer .entry)) ⌝ }
+{
+    if answer.len() < layout::ANSWER_WORDS {
+        return layout::SHORT_ANSWER;
+    }
+    let x = calls::write_section(record, quads, units, lines, frames, label, out, place);
+    answers::give(answer, x)
+}
+
+// The body of a record at a place of out.
+#[no_mangle]
+pub extern "C" fn bidlomeqa_write_body(
+    record: &[u64],
+    quads: &[u32],
+    units: &[u16],
+    lines: &[u32],
+    frames: &[u16],
+    label: &[u8],
+    out: &mut [u8],
+    place: usize,
+    answer: &mut [u64],
+) -> u64
+    ensures { λ r. ⌜ writeSeen (returned r (now (answer .exit))) (now (out .exit)) ≡ writeBodyCall (now («record» .entry)) (lists (now (quads .entry)) (now (units .entry)) (now (lines .entry)) (now (frames .entry))) (now (label .entry)) (now (out .entry)) place (now (answer .entry)) ⌝ }
+{
+    if answer.len() < layout::ANSWER_WORDS {
+        return layout::SHORT_ANSWER;
+    }
+    let x = calls::write_body(record, quads, units, lines, frames, label, out, place);
+    answers::give(answer, x)
+}
+
+// Where the label of a record stands in data.
+#[no_mangle]
+pub extern "C" fn bidlomeqa_label(data: &[u8], record: &[u64], answer: &mut [u64]) -> u64
+    ensures { λ r. ⌜ returned r (now (answer .exit)) ≡ labelCall (now («data» .entry)) (now («record» .entry)) (now (answer .entry)) ⌝ }
+{
+    if answer.len() < layout::ANSWER_WORDS {
+        return layout::SHORT_ANSWER;
+    }
+    let x = calls::label(data, record);
+    answers::give(answer, x)
+}
+
+// The label in the strip, or the lent caption.
+#[no_mangle]
+pub extern "C" fn bidlomeqa_caption(
+    strip: &[u8],
+    record: &[u64],
+    lent: &[u8],
+    answer: &mut [u64],
+) -> u64
+    ensures { λ r. ⌜ returned r (now (answer .exit)) ≡ captionCall (now (strip .entry)) (now («record» .entry)) (now (lent .entry)) (now (answer .entry)) ⌝ }
+{
+    if answer.len() < layout::ANSWER_WORDS {
+        return layout::SHORT_ANSWER;
+    }
+    let x = calls::caption(strip, record, lent);
+    answers::give(answer, x)
+}

@@ -1,0 +1,4 @@
+pub mod Storing
+mod Scanning
+mod Lengths
+mod Sides

@@ -1,0 +1,41 @@
+use Rattle.flat.specs.Records.{recordBy}
+use borrow.Author.Needs.{needs}
+use Rattle.flat.proofs.records.ali1_of.Statement.{statement}
+use Rattle.flat.proofs.records.ali1_of.Tie as tie
+use Rattle.flat.proofs.records.ali1_of.Reads as reads
+use Rattle.flat.proofs.records.ali1_of.Lts as lts
+use Rattle.flat.proofs.ali1.alignment_of.Reads as alignment-of-reads
+use Rattle.flat.proofs.base.base_of.Reads as base-of-reads
+use Rattle.picture.proofs.blank_picture.Reads as blank-picture-reads
+use Rattle.text_box_read.proofs.blank_text_box.Reads as blank-text-box-reads
+use Rattle.window_read.proofs.blank_window.Reads as blank-window-reads
+
+base-of-requires : tie.Need-base-of-requires
+base-of-requires c κs = search needs
+
+blank-picture-requires : tie.Need-blank-picture-requires
+blank-picture-requires c κs = search needs
+
+blank-text-box-requires : tie.Need-blank-text-box-requires
+blank-text-box-requires c κs = search needs
+
+blank-window-requires : tie.Need-blank-window-requires
+blank-window-requires c κs = search needs
+
+alignment-of-requires : tie.Need-alignment-of-requires
+alignment-of-requires c κs = search needs
+
+returns : tie.Need-returns
+unfolding recordBy
+returns c = rw (c .alignment-of .ensures, c .before .blank-window .ensures, c .before .before .blank-text-box .ensures, c .before .before .before .blank-picture .ensures, c .before .before .before .before .base-of .ensures)
+
+pub ali1-of-spec : {M : Type 1} → statement M
+ali1-of-spec =
+    tie.close
+    (tie.spec
+    base-of-requires
+    blank-picture-requires
+    blank-text-box-requires
+    blank-window-requires
+    alignment-of-requires
+    returns)

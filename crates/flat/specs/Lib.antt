@@ -1,0 +1,5 @@
+pub mod Words
+pub mod Base
+pub mod Own
+pub mod Records
+pub mod Below

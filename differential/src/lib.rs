@@ -1,0 +1,9 @@
+//! nnbfl against the static library: what both answer to the same bytes and to the same records.
+pub mod compare;
+pub mod fault;
+pub mod generate;
+pub mod oracle;
+pub mod panes;
+pub mod random;
+pub mod tally;
+pub mod whole;

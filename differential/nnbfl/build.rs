@@ -2,27 +2,11 @@
 use std::path::{Path, PathBuf};
 use std::{env, fs};
 
-const FILES: [&str; 8] = [
-    "bflan/anim_info.rs",
-    "bflyt/flags.rs",
-    "bflyt/pane.rs",
-    "core/cursor.rs",
-    "core/error.rs",
-    "core/mod.rs",
-    "core/writer.rs",
-    "ui2d/types.rs",
-];
+const FILES: [&str; 8] =
+    ["bflan/anim_info.rs", "bflyt/flags.rs", "bflyt/pane.rs", "core/cursor.rs", "core/error.rs", "core/mod.rs", "core/writer.rs", "ui2d/types.rs"];
 
-const STUBS: [&str; 8] = [
-    "lib.rs",
-    "bflan/mod.rs",
-    "bflan/targets.rs",
-    "bflyt/file.rs",
-    "bflyt/mod.rs",
-    "core/section.rs",
-    "core/tests.rs",
-    "ui2d/mod.rs",
-];
+const STUBS: [&str; 8] =
+    ["lib.rs", "bflan/mod.rs", "bflan/targets.rs", "bflyt/file.rs", "bflyt/mod.rs", "core/section.rs", "core/tests.rs", "ui2d/mod.rs"];
 
 fn lay(from: &Path, to: &Path, name: &str) {
     let (from, to) = (from.join(name), to.join(name));

@@ -159,6 +159,42 @@ pub fn read_section(data: &[u8], place: usize, lengths: [usize; 4], to: &mut Who
     }
 }
 
+/// What a word of the record stays below, as the layout says beside it; none where it may be any number or is no word of the kind.
+pub fn bound(kind: u64, word: usize) -> Option<u64> {
+    let float = Some(1 << 32);
+    match (kind, word) {
+        (_, KIND) => Some(5),
+        (_, PANE_FLAGS..POSITION | FLAG_EX..RESERVE0) => Some(2),
+        (_, POSITION..ALPHA) => Some(3),
+        (_, NAME_COUNT | USER_COUNT) => None,
+        (_, ALPHA | RESERVE0 | NAME..TRANSLATION) => Some(256),
+        (_, TRANSLATION..OWN) => float,
+        (PIC1, PICTURE_COLORS..PICTURE_MATERIAL | PICTURE_QUADS) => Some(256),
+        (PIC1, PICTURE_MATERIAL) => Some(1 << 16),
+        (PIC1, SHAPE_PRESENT) => Some(2),
+        (PIC1, SHAPE_INDEX) => float,
+        (TXT1, TEXT_BUFFER_SIZE..ORIGIN) => Some(1 << 16),
+        (TXT1, ORIGIN..TEXT_ALIGNMENT) => Some(3),
+        (TXT1, TEXT_ALIGNMENT) => Some(4),
+        (TXT1, TEXT_FLAGS..MEASURE | TEXT_PRESENT | LABEL_PRESENT | LINES_PRESENT) => Some(2),
+        (TXT1, MEASURE..FONT_TOP_COLOR | CHARACTER_SPACE..SHADOW_TOP_COLOR | SHADOW_ITALIC_TILT) => float,
+        (TXT1, FONT_TOP_COLOR..CHARACTER_SPACE | SHADOW_TOP_COLOR..SHADOW_ITALIC_TILT | LINES_COUNT) => Some(256),
+        (WND1, INFLATION..WINDOW_FLAGS | CONTENT_MATERIAL) => Some(1 << 16),
+        (WND1, WINDOW_FLAGS..WINDOW_KIND | NOT_DRAW_CONTENT) => Some(2),
+        (WND1, WINDOW_KIND) => Some(3),
+        (WND1, FRAMES_COUNT..CONTENT_MATERIAL | CONTENT_QUADS) => Some(256),
+        (ALI1, DIRECTION | DEFAULT_MARGIN) => float,
+        (ALI1, IS_ALIGN_LAST_PANE | IS_VERTICAL_ALIGNMENT) => Some(2),
+        _ => None,
+    }
+}
+
+/// The first word of the record that is not below its bound.
+fn bad_word(words: &[u64]) -> Option<Outcome> {
+    let bad = |word: &usize| bound(words[KIND], *word).is_some_and(|bound| words[*word] >= bound);
+    (0..RECORD_WORDS).find(bad).map(|word| (BAD_WORD, [word as u64, 0, 0]))
+}
+
 fn bad_string(bytes: &[u8]) -> bool {
     bytes.contains(&0) || std::str::from_utf8(bytes).is_err()
 }
@@ -243,6 +279,9 @@ pub fn written(w: &Whole, section: bool, place: usize, bytes: Vec<u8>) -> Vec<u8
 
 /// What `bidlomeqa_write_body` or `bidlomeqa_write_section` must answer, and what `out` must be after it.
 pub fn write(w: &Whole, section: bool, place: usize, out: &mut [u8], scratch: &mut Vec<u8>) -> Outcome {
+    if let Some(no) = bad_word(&w.words) {
+        return no;
+    }
     if out.len() > LIMIT {
         return refused(1, out.len(), 0);
     }

@@ -32,6 +32,7 @@ fn outcome_name(code: u64, number: u64) -> String {
         PANE => "pane".into(),
         WRITTEN => "written".into(),
         PART => "part".into(),
+        BAD_WORD => "bad word".into(),
         REFUSED => format!("refused {number:2}"),
         other => format!("code {other}"),
     }
@@ -81,7 +82,7 @@ impl Tally {
     pub fn report(&self) {
         println!("\ncases by generator");
         for (generator, count) in self.sums(|c, _, _| c.generator) {
-            println!("  {generator:28} {count:9}");
+            println!("  {generator:34} {count:9}");
         }
         println!("\ncases by call, outcome and kind");
         println!("  {:14} {:11} {}", "", "", KINDS.map(|k| format!("{k:>9}")).join(""));

@@ -33,14 +33,7 @@ pub const ALI1: u64 = 4;
 
 impl Default for Whole {
     fn default() -> Self {
-        Self {
-            words: [0; RECORD_WORDS],
-            quads: Vec::new(),
-            units: Vec::new(),
-            lines: Vec::new(),
-            frames: Vec::new(),
-            label: Vec::new(),
-        }
+        Self { words: [0; RECORD_WORDS], quads: Vec::new(), units: Vec::new(), lines: Vec::new(), frames: Vec::new(), label: Vec::new() }
     }
 }
 

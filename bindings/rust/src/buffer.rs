@@ -77,25 +77,13 @@ impl Buffer {
     }
 
     fn view<'a>(&'a self, strip: &'a [u8]) -> View<'a> {
-        View {
-            words: &self.words,
-            quads: &self.quads,
-            units: &self.units,
-            lines: &self.lines,
-            frames: &self.frames,
-            strip,
-        }
+        View { words: &self.words, quads: &self.quads, units: &self.units, lines: &self.lines, frames: &self.frames, strip }
     }
 
     /// Reads the section at `place` of the strip.
     pub fn read_section<'a>(&'a mut self, strip: &'a [u8], place: usize) -> Result<Section<'a>, Refusal> {
         let mut answer = Answer::default();
-        let mut lists = ReadLists {
-            quads: &mut self.quads,
-            units: &mut self.units,
-            lines: &mut self.lines,
-            frames: &mut self.frames,
-        };
+        let mut lists = ReadLists { quads: &mut self.quads, units: &mut self.units, lines: &mut self.lines, frames: &mut self.frames };
         match calls::read_section(strip, place, &mut lists, &mut self.words, &mut answer) {
             END => Ok(Section::End),
             PASSED => Ok(Section::Passed { next: answer[0] as usize }),
@@ -108,12 +96,7 @@ impl Buffer {
     /// Reads a body of the kind at `place` of the data.
     pub fn read_body<'a>(&'a mut self, kind: Kind, data: &'a [u8], place: usize) -> Result<Body<'a>, Refusal> {
         let mut answer = Answer::default();
-        let mut lists = ReadLists {
-            quads: &mut self.quads,
-            units: &mut self.units,
-            lines: &mut self.lines,
-            frames: &mut self.frames,
-        };
+        let mut lists = ReadLists { quads: &mut self.quads, units: &mut self.units, lines: &mut self.lines, frames: &mut self.frames };
         match calls::read_body(kind as u64, data, place, &mut lists, &mut self.words, &mut answer) {
             PANE => Ok(Body { view: self.view(data), end: answer[0] as usize }),
             REFUSED => Err(refusal(answer)),

@@ -128,31 +128,13 @@ pub fn write_body(record: &[u64], lists: WriteLists, out: &mut [u8], place: usiz
 /// Where the record's label stands in the strip.
 pub fn label(data: &[u8], record: &[u64], answer: &mut [u64]) -> u64 {
     // SAFETY: each pointer and length is a slice's own, and the library stays within them.
-    unsafe {
-        bidlomeqa_label(
-            data.as_ptr(),
-            data.len(),
-            record.as_ptr(),
-            record.len(),
-            answer.as_mut_ptr(),
-            answer.len(),
-        )
-    }
+    unsafe { bidlomeqa_label(data.as_ptr(), data.len(), record.as_ptr(), record.len(), answer.as_mut_ptr(), answer.len()) }
 }
 
 /// The label if there is one, otherwise the lent caption.
 pub fn caption(strip: &[u8], record: &[u64], lent: &[u8], answer: &mut [u64]) -> u64 {
     // SAFETY: each pointer and length is a slice's own, and the library stays within them.
     unsafe {
-        bidlomeqa_caption(
-            strip.as_ptr(),
-            strip.len(),
-            record.as_ptr(),
-            record.len(),
-            lent.as_ptr(),
-            lent.len(),
-            answer.as_mut_ptr(),
-            answer.len(),
-        )
+        bidlomeqa_caption(strip.as_ptr(), strip.len(), record.as_ptr(), record.len(), lent.as_ptr(), lent.len(), answer.as_mut_ptr(), answer.len())
     }
 }

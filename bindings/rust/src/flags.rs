@@ -18,10 +18,7 @@ fields!(BflytPosition {
     parent_relative_position_y: VerticalPosition,
 });
 
-fields!(TextPosition {
-    horizontal: HorizontalPosition,
-    vertical: VerticalPosition,
-});
+fields!(TextPosition { horizontal: HorizontalPosition, vertical: VerticalPosition });
 
 fields!(PaneFlags {
     is_visible: bool,
@@ -64,9 +61,4 @@ fields!(
     }
 );
 
-fields!(WindowFlags {
-    use_left_corner_material: bool,
-    use_vertex_color_for_all_window: bool,
-    window_kind: WindowKind,
-    not_draw_content: bool,
-});
+fields!(WindowFlags { use_left_corner_material: bool, use_vertex_color_for_all_window: bool, window_kind: WindowKind, not_draw_content: bool });

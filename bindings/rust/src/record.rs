@@ -239,9 +239,4 @@ pub struct WindowPane {
     pub frames: Vec<WindowFrame>,
 }
 
-fields!(AlignmentPane {
-    direction: u32,
-    default_margin: Binary32,
-    is_align_last_pane: bool,
-    is_vertical_alignment: bool,
-});
+fields!(AlignmentPane { direction: u32, default_margin: Binary32, is_align_last_pane: bool, is_vertical_alignment: bool });

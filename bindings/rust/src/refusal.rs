@@ -86,26 +86,20 @@ impl fmt::Display for Refusal {
     fn fmt(&self, f: &mut fmt::Formatter) -> fmt::Result {
         match *self {
             Self::TooLong { length } => write!(f, "the buffer or label has {length} bytes; at most 16777216 are taken"),
-            Self::BadPlace { place } => write!(
-                f,
-                "{place} is no place for this call: a section begins at a multiple of 4, a body at 8 or later, neither beyond the buffer"
-            ),
+            Self::BadPlace { place } => {
+                write!(f, "{place} is no place for this call: a section begins at a multiple of 4, a body at 8 or later, neither beyond the buffer")
+            }
             Self::ShortList { list: n, need } => write!(f, "the lent list of {} is too short: it needs {need} numbers", list(n)),
             Self::UnexpectedEof { offset, requested } => write!(f, "the bytes run out: {requested} more are needed at {offset}"),
             Self::NoNul { place } => write!(f, "the label at {place} meets no NUL before the end of the buffer"),
             Self::PerCharacter { value } => write!(f, "the text box has a per-character transform at offset {value}, which is not read"),
             Self::IllFormedUtf8 { place, which } => write!(f, "the {} at {place} is ill-formed UTF-8", string(which)),
-            Self::SectionSize { place, size } => write!(
-                f,
-                "the section size {size} at {place} is below 8, no multiple of 4, or passes the buffer"
-            ),
+            Self::SectionSize { place, size } => write!(f, "the section size {size} at {place} is below 8, no multiple of 4, or passes the buffer"),
             Self::BadName { which } => write!(f, "the {} is too long, has a NUL, or is ill-formed UTF-8", string(which)),
             Self::Reserve0 { value } => write!(f, "reserve0 is {value}; at most 31 fit"),
-            Self::ListLength { list: n, length } => write!(
-                f,
-                "the list of {} has {length} numbers: not a whole count of entries, or more than 255 of them",
-                list(n)
-            ),
+            Self::ListLength { list: n, length } => {
+                write!(f, "the list of {} has {length} numbers: not a whole count of entries, or more than 255 of them", list(n))
+            }
             Self::BadFlip { frame, flip } => write!(f, "frame {frame} has the flip {flip}; at most 5 is known"),
             Self::TextLength { units, text_length } => {
                 write!(f, "the text has {units} units, but its text_length {text_length} says {}", text_length / 2)

@@ -96,8 +96,22 @@ fn headers(list: &mut List, r: &mut Random) {
 // Values of packed bytes, by kind and place in the body.
 fn packed(list: &mut List, r: &mut Random) {
     let bytes: [(u64, usize); 16] = [
-        (PAN1, 0), (PAN1, 1), (PAN1, 2), (PAN1, 3), (PIC1, 95), (TXT1, 84), (TXT1, 85), (WND1, 93),
-        (WND1, 166), (WND1, 170), (ALI1, 84), (ALI1, 85), (ALI1, 86), (WND1, 94), (WND1, 123), (WND1, 167),
+        (PAN1, 0),
+        (PAN1, 1),
+        (PAN1, 2),
+        (PAN1, 3),
+        (PIC1, 95),
+        (TXT1, 84),
+        (TXT1, 85),
+        (WND1, 93),
+        (WND1, 166),
+        (WND1, 170),
+        (ALI1, 84),
+        (ALI1, 85),
+        (ALI1, 86),
+        (WND1, 94),
+        (WND1, 123),
+        (WND1, 167),
     ];
     for (kind, at) in bytes {
         let mut data = bodies::template(r, kind, 8);

@@ -1,10 +1,11 @@
-//! Compares nnbfl with the static library: `differential [--cases N] [--seed N] [--fault NAME] [--faults]`.
+//! Compares nnbfl with the static library: `differential [--cases N] [--seed N] [--fault NAME | --faults | --outside]`.
 use differential::compare::Comparison;
 use differential::fault::{Fault, FAULTS};
 use differential::generate;
+use differential::outside;
 use std::process::exit;
 
-const USAGE: &str = "differential [--cases N] [--seed N] [--fault NAME | --faults]";
+const USAGE: &str = "differential [--cases N] [--seed N] [--fault NAME | --faults | --outside]";
 
 fn usage() -> ! {
     eprintln!("{USAGE}\nfaults: {}", FAULTS.map(|(name, _)| name).join(" "));
@@ -27,6 +28,19 @@ fn try_faults(seed: u64) -> bool {
     all && c.tally.differences == 0
 }
 
+// What both do outside the domain, which must be what docs/DIFFERENCES.md says.
+fn tell_outside() -> bool {
+    let mut all = true;
+    for row in outside::rows() {
+        println!("{}\n  nnbfl: {}\n  here:  {}", row.what, row.nnbfl, row.library);
+        if [&row.nnbfl[..], &row.library[..]] != row.known {
+            println!("  NOT AS KNOWN: {:?}", row.known);
+            all = false;
+        }
+    }
+    all
+}
+
 fn main() {
     let (mut cases, mut seed, mut fault) = (2_500_000, 1, Fault::none());
     let mut words = std::env::args().skip(1);
@@ -37,6 +51,7 @@ fn main() {
             "--seed" => seed = number(),
             "--fault" => fault = words.next().and_then(|n| Fault::named(&n, 997)).unwrap_or_else(|| usage()),
             "--faults" => exit(if try_faults(seed) { 0 } else { 1 }),
+            "--outside" => exit(if tell_outside() { 0 } else { 1 }),
             _ => usage(),
         }
     }

@@ -13,7 +13,7 @@ use crate::random::Random;
 pub type Generator = fn(&mut Comparison, &mut Random);
 
 /// Those that go through a class of inputs whole.
-pub const SYSTEMATIC: [(&str, Generator); 21] = [
+pub const SYSTEMATIC: [(&str, Generator); 22] = [
     ("read: cut at every length", reads::cut),
     ("read: every byte value", reads::bytes),
     ("read: all text flags", reads::flags),
@@ -32,6 +32,7 @@ pub const SYSTEMATIC: [(&str, Generator); 21] = [
     ("write: names and labels", outputs::names),
     ("write: UTF-16 edges", outputs::utf16),
     ("write: counts at limits", outputs::counts),
+    ("write: words beyond their bounds", outputs::bounds),
     ("write: outputs of every length", outputs::room),
     ("write: 16 MiB outputs", outputs::large),
     ("strips: outputs of every length", strips::every_length),

@@ -2,7 +2,7 @@
 use super::edges::{BYTES, UNITS};
 use super::records::{self, put_pane_name, put_user_name};
 use crate::compare::Comparison;
-use crate::oracle::LIMIT;
+use crate::oracle::{self, LIMIT};
 use crate::random::{Random, FLOATS};
 use crate::whole::*;
 use bidlomeqa::layout::*;
@@ -184,6 +184,23 @@ pub fn counts(c: &mut Comparison, r: &mut Random) {
             w.frames = vec![1; 8];
             w.frames[2 * frame + 1] = flip;
             c.write(&w, false, 8 + frame, ROOM);
+        }
+    }
+}
+
+/// Every word of every kind at its bound and beyond.
+pub fn bounds(c: &mut Comparison, r: &mut Random) {
+    for kind in KINDS {
+        for word in 1..RECORD_WORDS {
+            let w = plain(r, kind);
+            for value in [w.words[word] + (1 << 16), w.words[word] + (1 << 32), u64::MAX, oracle::bound(kind, word).unwrap_or(0)] {
+                let mut w = w.clone();
+                w.words[word] = value;
+                c.write(&w, false, 8, ROOM);
+                c.write(&w, true, 8, 0);
+                w.words[r.below(RECORD_WORDS - 1) + 1] = value;
+                c.write(&w, true, 8, ROOM);
+            }
         }
     }
 }

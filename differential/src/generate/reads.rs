@@ -8,9 +8,8 @@ use crate::whole::*;
 const KINDS: [u64; 5] = [PAN1, PIC1, TXT1, WND1, ALI1];
 
 /// Offsets that lie far out.
-pub const FAR: [u32; 12] = [
-    0x100, 0x1000, 0xFFFF, 0x1_0000, 0xFF_FFFF, 0x100_0000, 0x7FFF_FFFF, 0x8000_0000, 0xFFFF_FFF0, 0xFFFF_FFF8, 0xFFFF_FFFE, 0xFFFF_FFFF,
-];
+pub const FAR: [u32; 12] =
+    [0x100, 0x1000, 0xFFFF, 0x1_0000, 0xFF_FFFF, 0x100_0000, 0x7FFF_FFFF, 0x8000_0000, 0xFFFF_FFF0, 0xFFFF_FFF8, 0xFFFF_FFFE, 0xFFFF_FFFF];
 
 /// Templates and random bodies of each kind, at each residue, cut at every length; as bodies and as sections.
 pub fn cut(c: &mut Comparison, r: &mut Random) {

@@ -232,17 +232,7 @@ impl Comparison {
         let out = &mut self.out[..length];
         let write = if section { calls::write_section } else { calls::write_body };
         let mut code = write(&w.words, w.lists(), out, place, &mut answer);
-        self.fault.apply(Left {
-            code: &mut code,
-            answer: &mut answer,
-            words: &mut [],
-            quads: &mut [],
-            units: &mut [],
-            lines: &mut [],
-            frames: &mut [],
-            out: &mut self.out,
-            before: &self.before,
-        });
+        self.fault.apply(Left { out: &mut self.out, before: &self.before, ..Left::answer(&mut code, &mut answer) });
         let case = Case { generator: self.generator, call: if section { "write section" } else { "write body" }, kind: w.kind() };
         if (code, answer) != expected || self.out != self.model {
             let mut what = Vec::new();
@@ -259,16 +249,17 @@ impl Comparison {
     pub fn parts(&mut self, strip: &[u8], words: &[u64], lent: &[u8]) {
         let mut answer = [WORD; ANSWER_WORDS];
         let code = calls::label(strip, words, &mut answer);
-        self.part("label", oracle::label(strip, words), (code, answer), words[KIND]);
+        self.part("label", oracle::label(strip, words), code, answer, words[KIND]);
         let mut answer = [WORD; ANSWER_WORDS];
         let code = calls::caption(strip, words, lent, &mut answer);
-        self.part("caption", oracle::caption(strip, words, lent), (code, answer), words[KIND]);
+        self.part("caption", oracle::caption(strip, words, lent), code, answer, words[KIND]);
     }
 
-    fn part(&mut self, call: &'static str, expected: Outcome, found: Outcome, kind: u64) {
+    fn part(&mut self, call: &'static str, expected: Outcome, mut code: u64, mut answer: [u64; ANSWER_WORDS], kind: u64) {
+        self.fault.apply(Left::answer(&mut code, &mut answer));
         let case = Case { generator: self.generator, call, kind };
-        if found != expected {
-            self.tally.differs(case, &expected, &found, &[], "");
+        if (code, answer) != expected {
+            self.tally.differs(case, &expected, &(code, answer), &[], "");
         }
         self.tally.count(case, &expected);
     }

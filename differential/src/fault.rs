@@ -16,11 +16,18 @@ pub struct Left<'a> {
     pub before: &'a [u8],
 }
 
+impl<'a> Left<'a> {
+    /// A call that left nothing but its answer.
+    pub fn answer(code: &'a mut u64, answer: &'a mut [u64; ANSWER_WORDS]) -> Self {
+        Self { code, answer, words: &mut [], quads: &mut [], units: &mut [], lines: &mut [], frames: &mut [], out: &mut [], before: &[] }
+    }
+}
+
 /// Changes what a call left; false where it finds nothing to change.
 type Change = fn(&mut Left) -> bool;
 
 /// The faults, by name.
-pub const FAULTS: [(&str, Change); 30] = [
+pub const FAULTS: [(&str, Change); 32] = [
     ("swapped-field", |l| pane(l) && swap(l.words, TRANSLATION, TRANSLATION + 1)),
     ("swapped-sizes", |l| pane(l) && swap(l.words, SCALE, SIZE)),
     ("swapped-colors", |l| kind(l, PIC1) && swap(l.words, PICTURE_COLORS + 4, PICTURE_COLORS + 8)),
@@ -50,6 +57,8 @@ pub const FAULTS: [(&str, Change); 30] = [
     ("changed-byte", |l| *l.code == WRITTEN && add8(l.out, l.answer[0] as usize - 1)),
     ("byte-after-end", |l| *l.code == WRITTEN && l.out.len() > l.answer[0] as usize && add8(l.out, l.answer[0] as usize)),
     ("lost-write", |l| *l.code == WRITTEN && lost(l)),
+    ("part-moved", |l| *l.code == PART && add(&mut l.answer[1])),
+    ("part-of-the-other", |l| *l.code == PART && add(&mut l.answer[0])),
     ("changed-end", |l| *l.code == WRITTEN && add(&mut l.answer[0])),
 ];
 
@@ -115,24 +124,38 @@ fn lost(l: &mut Left) -> bool {
 
 /// The fault of a run, if one was asked for: made in one of `every` calls where it applies.
 pub struct Fault {
-    change: Option<Change>,
+    change: Option<Box<dyn Fn(&mut Left) -> bool>>,
     every: u64,
     calls: u64,
     pub made: u64,
 }
 
 impl Fault {
-    pub const fn none() -> Self {
+    pub fn none() -> Self {
         Self { change: None, every: 1, calls: 0, made: 0 }
+    }
+
+    fn of(change: impl Fn(&mut Left) -> bool + 'static, every: u64) -> Self {
+        Self { change: Some(Box::new(change)), every, calls: 0, made: 0 }
     }
 
     pub fn named(name: &str, every: u64) -> Option<Self> {
         let (_, change) = FAULTS.iter().find(|(n, _)| *n == name)?;
-        Some(Self { change: Some(*change), every, calls: 0, made: 0 })
+        Some(Self::of(change, every))
+    }
+
+    /// One word of the record of every pane that is read.
+    pub fn word(at: usize) -> Self {
+        Self::of(move |l| pane(l) && add(&mut l.words[at]), 1)
+    }
+
+    /// One byte of every output that is written.
+    pub fn byte(at: usize) -> Self {
+        Self::of(move |l| *l.code == WRITTEN && add8(l.out, at), 1)
     }
 
     pub fn apply(&mut self, mut left: Left) {
-        let Some(change) = self.change else { return };
+        let Some(change) = &self.change else { return };
         self.calls += 1;
         if self.calls % self.every == 0 && change(&mut left) {
             self.made += 1;

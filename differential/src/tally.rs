@@ -78,6 +78,12 @@ impl Tally {
         sums
     }
 
+    // How many cases nnbfl itself decided: what was read or written, where bytes ran out or no NUL was met in a body, and where an output ends.
+    fn judged(&self) -> u64 {
+        let by_nnbfl = |code: u64, number: u64| matches!((code, number), (PANE | WRITTEN, _) | (REFUSED, 4 | 5 | 16));
+        self.counts.iter().filter(|((_, code, number), _)| by_nnbfl(*code, *number)).map(|(_, count)| count).sum()
+    }
+
     /// Prints the counts.
     pub fn report(&self) {
         println!("\ncases by generator");
@@ -92,7 +98,8 @@ impl Tally {
             let cell = |kind: u64| cells.get(&(call, code, number, kind)).map_or("        .".into(), |n| format!("{n:9}"));
             println!("  {call:14} {:11} {}", outcome_name(code, number), [0, 1, 2, 3, 4, 5].map(cell).join(""));
         }
-        println!("\n{} records came back as they were written, or strips ended where they must", self.claims);
+        println!("\n{} cases by nnbfl's own answer, the others by document 01's table", self.judged());
+        println!("{} records came back as they were written, or strips ended where they must", self.claims);
         println!("{} cases in {:.0} s, {} differences", self.cases, self.seconds(), self.differences);
     }
 

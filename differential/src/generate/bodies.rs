@@ -89,7 +89,7 @@ pub fn small(r: &mut Random) -> usize {
 pub fn units(r: &mut Random, count: usize) -> Vec<u16> {
     let mut units = Vec::with_capacity(count);
     while units.len() < count {
-        let n = r.next() as u16;
+        let n = r.word() as u16;
         match n {
             0xD800..=0xDFFF if units.len() + 2 <= count => {
                 units.push(0xD800 | n & 0x3FF);

@@ -243,7 +243,7 @@ pub fn offset(r: &mut Random, length: usize) -> u32 {
         2 => length as u32 + r.below(6) as u32,
         3 => (length as u32).wrapping_sub(r.below(12) as u32),
         4 => r.pick(&FAR),
-        5 => r.next() as u32,
+        5 => r.word() as u32,
         _ => r.below(length + 1) as u32,
     }
 }

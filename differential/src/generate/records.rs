@@ -96,7 +96,7 @@ fn window(r: &mut Random, w: &mut Whole) {
     let count = small(r);
     w.quads = floats(r, 8 * count);
     for _ in 0..small(r) {
-        w.frames.push(r.next() as u16);
+        w.frames.push(r.word() as u16);
         w.frames.push(r.below(6) as u16);
     }
 }

@@ -1,12 +1,13 @@
 //! Reads and writes pages of 40, 600 and 6,000 panes of mixed kinds with nnbfl and with the library, in one run on the same bytes.
 //!
-//! `bench [--seed N] [--seconds S] [--only NAME]`: S seconds are given to each figure; NAME runs one contender once a page size, for counting instructions.
+//! `bench [--seed N] [--seconds S] [--panes N] [--only NAME]`: S seconds are given to each figure; NAME makes 100 calls of one contender and times nothing,
+//! for counting instructions.
 use bidlomeqa::calls::{self, ReadLists};
 use bidlomeqa::layout::*;
 use bidlomeqa::{Buffer, Record, Section};
 use differential::compare::Comparison;
 use differential::fault::Fault;
-use differential::generate::records;
+use differential::generate::{bodies, records};
 use differential::oracle;
 use differential::panes::AnyPane;
 use differential::random::Random;
@@ -23,16 +24,25 @@ struct Page {
     records: Vec<Record>,
 }
 
-// Lists as an editor's page has them: few quads, frames and lines, short texts.
+// As a page has it: names and labels of ASCII letters seven times in eight, up to 8 quads, frames and lines, up to 63 units of text.
 fn record(r: &mut Random, kind: u64) -> Whole {
     let mut w = records::good(r, kind);
-    w.quads.truncate(8 * (1 + r.below(2)));
-    w.frames.truncate(8);
-    w.lines.truncate(4);
-    if w.units.len() > 24 {
-        w.units = vec![0x41; 24];
-        w.words[TEXT_LENGTH] = 48;
+    let floats = |r: &mut Random, count: usize| (0..count).map(|_| r.float()).collect();
+    let (quads, lines, units) = (r.below(9), r.below(9), r.below(64));
+    if !r.once_in(8) {
+        records::put_pane_name(&mut w, &b"N_Pane_Name_Of_24_Bytes_"[..3 + r.below(22)]);
+        records::put_user_name(&mut w, &b"UserName"[..r.below(9)]);
+        w.label = b"Label_Of_A_Text_Box"[..r.below(20)].to_vec();
     }
+    w.quads = floats(r, 8 * quads);
+    if w.is(LINES_PRESENT) {
+        w.lines = floats(r, 2 * lines);
+    }
+    if w.is(TEXT_PRESENT) {
+        w.units = bodies::units(r, units);
+        w.words[TEXT_LENGTH] = 2 * units as u64;
+    }
+    w.frames = (0..r.below(9)).flat_map(|i| [i as u16, i as u16 % 6]).collect();
     w
 }
 
@@ -217,7 +227,8 @@ fn main() {
     let only = value("--only").map(String::as_str);
     println!("seed {seed}; the least time of many rounds in {seconds} s each; one thread");
     println!("The lent lists, records and outputs are neither allocated nor cleared between calls; nnbfl allocates what it hands back, and a new writer a page.");
-    for count in [40, 600, 6000] {
+    let one = value("--panes").map(|n| vec![n.parse().expect("a number")]);
+    for count in one.unwrap_or(vec![40, 600, 6000]) {
         measure(count, seed, seconds, only);
     }
 }

@@ -306,6 +306,9 @@ pub fn write(w: &Whole, section: bool, place: usize, out: &mut [u8], scratch: &m
 
 /// What `bidlomeqa_label` must answer.
 pub fn label(data: &[u8], words: &[u64]) -> Outcome {
+    if let Some(no) = bad_word(words) {
+        return no;
+    }
     match stands(data, words) {
         Some((place, length)) => (PART, [0, place, length]),
         None => (PART, [0, 0, 0]),
@@ -314,6 +317,9 @@ pub fn label(data: &[u8], words: &[u64]) -> Outcome {
 
 /// What `bidlomeqa_caption` must answer.
 pub fn caption(strip: &[u8], words: &[u64], lent: &[u8]) -> Outcome {
+    if let Some(no) = bad_word(words) {
+        return no;
+    }
     match stands(strip, words) {
         Some((place, length)) => (PART, [0, place, length]),
         None => (PART, [1, 0, lent.len() as u64]),

@@ -86,10 +86,12 @@ impl<const N: usize> std::fmt::Debug for FixedString<N> {
 impl<const N: usize> Words for FixedString<N> {
     const COUNT: usize = N + 1;
 
+    #[inline]
     fn take(words: &[u64]) -> Self {
         Self { count: (words[0] as usize).min(N) as u8, bytes: <[u8; N]>::take(&words[1..]) }
     }
 
+    #[inline]
     fn put(&self, words: &mut [u64]) {
         words[0] = u64::from(self.count);
         self.bytes.put(&mut words[1..]);
@@ -167,6 +169,7 @@ impl Default for FontMeasure {
 impl Words for FontMeasure {
     const COUNT: usize = 3;
 
+    #[inline]
     fn take(words: &[u64]) -> Self {
         let measure = Vector2f::take(&words[1..]);
         if words[0] == 0 {
@@ -176,6 +179,7 @@ impl Words for FontMeasure {
         }
     }
 
+    #[inline]
     fn put(&self, words: &mut [u64]) {
         let (kind, measure) = match self {
             Self::Size(measure) => (0, measure),

@@ -15,10 +15,12 @@ pub(crate) trait Words: Sized {
 impl Words for bool {
     const COUNT: usize = 1;
 
+    #[inline]
     fn take(words: &[u64]) -> Self {
         words[0] != 0
     }
 
+    #[inline]
     fn put(&self, words: &mut [u64]) {
         words[0] = u64::from(*self);
     }
@@ -29,10 +31,12 @@ macro_rules! numbers {
         impl Words for $number {
             const COUNT: usize = 1;
 
+            #[inline]
             fn take(words: &[u64]) -> Self {
                 words[0] as $bits as $number
             }
 
+            #[inline]
             fn put(&self, words: &mut [u64]) {
                 words[0] = u64::from(*self as $bits);
             }
@@ -46,10 +50,12 @@ numbers!(u8 as u8, u16 as u16, u32 as u32, i16 as u16);
 impl<T: Words + Copy, const N: usize> Words for [T; N] {
     const COUNT: usize = N * T::COUNT;
 
+    #[inline]
     fn take(words: &[u64]) -> Self {
         std::array::from_fn(|i| T::take(&words[i * T::COUNT..]))
     }
 
+    #[inline]
     fn put(&self, words: &mut [u64]) {
         for (i, value) in self.iter().enumerate() {
             value.put(&mut words[i * T::COUNT..]);
@@ -69,6 +75,7 @@ macro_rules! fields {
         impl $crate::words::Words for $name {
             const COUNT: usize = 0 $(+ <$type as $crate::words::Words>::COUNT)*;
 
+            #[inline]
             fn take(words: &[u64]) -> Self {
                 let mut at = 0;
                 $(
@@ -79,6 +86,7 @@ macro_rules! fields {
                 Self { $($field),* }
             }
 
+            #[inline]
             fn put(&self, words: &mut [u64]) {
                 let mut at = 0;
                 $(
@@ -110,10 +118,12 @@ macro_rules! cases {
         impl $crate::words::Words for $name {
             const COUNT: usize = 1;
 
+            #[inline]
             fn take(words: &[u64]) -> Self {
                 Self::CASES[words[0] as usize]
             }
 
+            #[inline]
             fn put(&self, words: &mut [u64]) {
                 words[0] = *self as u64;
             }

@@ -1,7 +1,7 @@
 //! Reads and writes pages of 40, 600 and 6,000 panes of mixed kinds with nnbfl and with the library, in one run on the same bytes.
 //!
-//! `bench [--seed N] [--seconds S] [--panes N] [--only NAME]`: S seconds are given to each figure; NAME makes 100 calls of one contender and times nothing,
-//! for counting instructions.
+//! `bench [--seed N] [--seconds S] [--panes N] [--kind N] [--only NAME]`: S seconds are given to each figure; `--kind` makes pages of one kind; `--only` makes
+//! 100 calls of one contender and times nothing, for counting instructions.
 use bidlomeqa::calls::{self, ReadLists};
 use bidlomeqa::layout::*;
 use bidlomeqa::{Buffer, Record, Section};
@@ -46,8 +46,8 @@ fn record(r: &mut Random, kind: u64) -> Whole {
     w
 }
 
-fn page(r: &mut Random, count: usize) -> Page {
-    let wholes: Vec<Whole> = (0..count).map(|i| record(r, (i % 5) as u64)).collect();
+fn page(r: &mut Random, count: usize, kind: Option<u64>) -> Page {
+    let wholes: Vec<Whole> = (0..count as u64).map(|i| record(r, kind.unwrap_or(i % 5))).collect();
     let mut bytes = Vec::new();
     for w in &wholes {
         let section = oracle::written(w, true, bytes.len(), Vec::new());
@@ -193,8 +193,8 @@ fn lent() -> Lent {
     Lent { quads: vec![0; FULL[0]], units: vec![0; FULL[1]], lines: vec![0; FULL[2]], frames: vec![0; FULL[3]], words: [0; RECORD_WORDS] }
 }
 
-fn measure(count: usize, seed: u64, seconds: f64, only: Option<&str>) {
-    let page = page(&mut Random(seed), count);
+fn measure(page: Page, seconds: f64, only: Option<&str>) {
+    let count = page.wholes.len();
     let (mut lent, length) = (lent(), page.bytes.len());
     let (mut buffers, mut outs) = ([Buffer::new(), Buffer::new(), Buffer::new()], [0; 3].map(|_| vec![0; length]));
     if let Some(name) = only {
@@ -224,11 +224,12 @@ fn main() {
     let value = |name: &str| words.iter().position(|w| w == name).and_then(|i| words.get(i + 1));
     let seed = value("--seed").map_or(1, |n| n.parse().expect("a number"));
     let seconds = value("--seconds").map_or(0.5, |n| n.parse().expect("a number"));
+    let kind = value("--kind").map(|n| n.parse().expect("a number"));
     let only = value("--only").map(String::as_str);
     println!("seed {seed}; the least time of many rounds in {seconds} s each; one thread");
     println!("The lent lists, records and outputs are neither allocated nor cleared between calls; nnbfl allocates what it hands back, and a new writer a page.");
     let one = value("--panes").map(|n| vec![n.parse().expect("a number")]);
     for count in one.unwrap_or(vec![40, 600, 6000]) {
-        measure(count, seed, seconds, only);
+        measure(page(&mut Random(seed), count, kind), seconds, only);
     }
 }

@@ -121,6 +121,10 @@ pub fn parts(c: &mut Comparison, r: &mut Random) {
         w.words[LABEL_PLACE] = if r.once_in(2) { r.below(24) as u64 } else { r.pick(&edge) };
         w.words[LABEL_LENGTH] = if r.once_in(2) { r.below(24) as u64 } else { r.pick(&edge) };
     }
+    if r.once_in(8) {
+        let word = r.below(RECORD_WORDS - 1) + 1;
+        w.words[word] = r.pick(&[2, 3, 4, 256, 1 << 16, 1 << 32, u64::MAX]);
+    }
     let lent = &b"lent caption"[..r.below(13)];
     c.parts(&strip, &w.words, lent);
 }

@@ -68,7 +68,7 @@ fn check(page: &Page) {
     }
     let mut out = vec![0; page.bytes.len()];
     write_flat(page, &mut out);
-    assert!(out == page.bytes && write_nnbfl(page) == page.bytes && c.tally.differences == 0);
+    assert!(out == page.bytes && write_nnbfl(page, false) == page.bytes && c.tally.differences == 0);
 }
 
 fn read_nnbfl(bytes: &[u8]) {
@@ -119,7 +119,8 @@ fn read_records(bytes: &[u8], buffer: &mut Buffer) {
     }
 }
 
-fn write_nnbfl(page: &Page) -> Vec<u8> {
+// With `forget` the breadcrumbs of a pane are dropped once it is written; nnbfl keeps those of the whole page.
+fn write_nnbfl(page: &Page, forget: bool) -> Vec<u8> {
     let mut writer = Writer::new();
     for (pane, w) in page.panes.iter().zip(&page.wholes) {
         let place = writer.pos();
@@ -130,6 +131,9 @@ fn write_nnbfl(page: &Page) -> Vec<u8> {
         writer.align(4);
         let end = writer.pos();
         writer.patch_u32(size, (end - place) as u32);
+        if forget {
+            writer.breadcrumbs.clear();
+        }
     }
     writer.buffer
 }
@@ -183,7 +187,8 @@ fn contenders<'a>(page: &'a Page, lent: &'a mut Lent, buffers: &'a mut [Buffer; 
         ("read library", Box::new(move || read_flat(black_box(bytes), lent))),
         ("read crate, views", Box::new(move || read_views(black_box(bytes), views))),
         ("read crate, records", Box::new(move || read_records(black_box(bytes), reads))),
-        ("write nnbfl", Box::new(move || drop(black_box(write_nnbfl(black_box(page)))))),
+        ("write nnbfl", Box::new(move || drop(black_box(write_nnbfl(black_box(page), false))))),
+        ("write nnbfl, forgetful", Box::new(move || drop(black_box(write_nnbfl(black_box(page), true))))),
         ("write library", Box::new(move || write_flat(black_box(page), flat))),
         ("write crate, records", Box::new(move || write_records(black_box(page), writes, typed))),
     ]

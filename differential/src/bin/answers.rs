@@ -1,6 +1,6 @@
 //! Writes the fixed list of nnbfl's answers that the program `replay` goes through: `answers FOLDER` writes FOLDER/stdin and FOLDER/stdout.
 //!
-//! A line of stdin is the hexadecimal digits of one section at place 0. A line of stdout is `no NUMBER a b`, `pass N`, `end`, or `R N HEX`: the place after
+//! A line of stdin is the hexadecimal digits of one section at place 0. A line of stdout is `no NUMBER a b`, `pass N`, `end`, or `pane R N HEX`: the place after
 //! the body, the next section, and the section written back, which is what nnbfl writes of the pane that it read. Refusals 6, 7 and 8, `pass` and
 //! `end` are document 01's, which nnbfl has no word for; the rest is nnbfl's.
 use bidlomeqa::layout::*;
@@ -37,7 +37,7 @@ fn answer(data: &[u8]) -> Option<String> {
             if back.len() > LONGEST {
                 return None;
             }
-            format!("{a} {b} {}", hex(&back))
+            format!("pane {a} {b} {}", hex(&back))
         }
     })
 }

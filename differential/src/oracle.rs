@@ -216,46 +216,50 @@ fn first_unpaired(units: &[u16]) -> Option<usize> {
 
 // Refusals 9 to 15.
 fn write_refusal(w: &Whole) -> Option<Outcome> {
-    let kind = w.kind();
-    let text_box = kind == TXT1;
+    let lines = w.kind() == TXT1 && w.is(LINES_PRESENT);
+    let no_line_bit = lines && !w.is(TEXT_FLAGS + 6);
+    string_refusal(w).or_else(|| list_refusal(w, lines)).or_else(|| text_refusal(w)).or_else(|| no_line_bit.then(|| refused(15, 0, 0)))
+}
+
+// 9 and 10
+fn string_refusal(w: &Whole) -> Option<Outcome> {
     if w.words[NAME_COUNT] > 24 || bad_string(&w.name()) {
         return Some(refused(9, 1, 0));
     }
     if w.words[USER_COUNT] > 8 || bad_string(&w.user()) {
         return Some(refused(9, 2, 0));
     }
-    if text_box && w.is(LABEL_PRESENT) && bad_string(&w.label) {
+    if w.kind() == TXT1 && w.is(LABEL_PRESENT) && bad_string(&w.label) {
         return Some(refused(9, 3, 0));
     }
-    if w.words[RESERVE0] > 31 {
-        return Some(refused(10, w.words[RESERVE0] as usize, 0));
-    }
-    if (kind == PIC1 || kind == WND1) && bad_list(w.quads.len(), 8) {
+    (w.words[RESERVE0] > 31).then(|| refused(10, w.words[RESERVE0] as usize, 0))
+}
+
+// 11 and 12
+fn list_refusal(w: &Whole, lines: bool) -> Option<Outcome> {
+    let (picture, window) = (w.kind() == PIC1, w.kind() == WND1);
+    if (picture || window) && bad_list(w.quads.len(), 8) {
         return Some(refused(11, 1, w.quads.len()));
     }
-    if text_box && w.is(LINES_PRESENT) && bad_list(w.lines.len(), 2) {
+    if lines && bad_list(w.lines.len(), 2) {
         return Some(refused(11, 3, w.lines.len()));
     }
-    if kind == WND1 {
-        if bad_list(w.frames.len(), 2) {
-            return Some(refused(11, 4, w.frames.len()));
-        }
-        if let Some(i) = w.frames.chunks(2).position(|f| f[1] > 5) {
-            return Some(refused(12, i, w.frames[2 * i + 1] as usize));
-        }
+    if window && bad_list(w.frames.len(), 2) {
+        return Some(refused(11, 4, w.frames.len()));
     }
-    if text_box && w.is(TEXT_PRESENT) {
-        if w.units.len() as u64 != w.words[TEXT_LENGTH] / 2 {
-            return Some(refused(13, w.units.len(), w.words[TEXT_LENGTH] as usize));
-        }
-        if let Some(before) = first_unpaired(&w.units) {
-            return Some(refused(14, before, 0));
-        }
+    let flip = w.frames.chunks(2).position(|f| window && f[1] > 5)?;
+    Some(refused(12, flip, w.frames[2 * flip + 1] as usize))
+}
+
+// 13 and 14
+fn text_refusal(w: &Whole) -> Option<Outcome> {
+    if w.kind() != TXT1 || !w.is(TEXT_PRESENT) {
+        return None;
     }
-    if text_box && w.is(LINES_PRESENT) && !w.is(TEXT_FLAGS + 6) {
-        return Some(refused(15, 0, 0));
+    if w.units.len() as u64 != w.words[TEXT_LENGTH] / 2 {
+        return Some(refused(13, w.units.len(), w.words[TEXT_LENGTH] as usize));
     }
-    None
+    first_unpaired(&w.units).map(|before| refused(14, before, 0))
 }
 
 /// The section at `place`, or the body alone, as nnbfl writes it. `bytes` is everything up to its end.

@@ -141,9 +141,6 @@ fn names() -> Vec<Row> {
     };
     let write = |text: &str| nnbfl_writes(PAN1, base_with(|p| p.pane_name = text.into()), name);
     let user = |text: &str| nnbfl_writes(PAN1, base_with(|p| p.user_name = text.into()), |p| format!(" {:?}", p.base().user_name));
-    let mut reserved = blank(PAN1);
-    reserved.words[RESERVE0] = 32;
-    let ex = PaneFlagsEx { reserve0: 32, ..Default::default() };
     vec![
         row(
             "a name of 25 letters",
@@ -164,13 +161,15 @@ fn names() -> Vec<Row> {
             ["written to 84; read \"12345678\", ends at 84", "refused by 9: 2, 0"],
         ),
         row("a name of the one byte 00", write("\0"), named("\0", ""), ["written to 84; read \"\", ends at 84", "refused by 9: 1, 0"]),
-        row(
-            "reserve0 = 32",
-            nnbfl_writes(PAN1, base_with(|p| p.flag_ex = ex), reserve0),
-            library_writes(&reserved),
-            ["written to 84; read 0, ends at 84", "refused by 10: 32, 0"],
-        ),
     ]
+}
+
+fn reserved() -> Row {
+    let mut w = blank(PAN1);
+    w.words[RESERVE0] = 32;
+    let ex = PaneFlagsEx { reserve0: 32, ..Default::default() };
+    let pane = base_with(|p| p.flag_ex = ex);
+    row("reserve0 = 32", nnbfl_writes(PAN1, pane, reserve0), library_writes(&w), ["written to 84; read 0, ends at 84", "refused by 10: 32, 0"])
 }
 
 fn counts(pane: &AnyPane) -> String {
@@ -191,15 +190,10 @@ fn lists() -> Vec<Row> {
     lines.words[LINES_PRESENT] = 1;
     lines.words[TEXT_FLAGS + 6] = 1;
     lines.lines = vec![0; 2 * 256];
-    let mut no_bit = blank(TXT1);
-    no_bit.words[LINES_PRESENT] = 1;
-    no_bit.lines = vec![0; 2];
-    let table = |n| Some(LineTransformTable { entries: vec![LineTransform::default(); n] });
     let bit = TextPaneFlags { is_line_transform: true, ..Default::default() };
     let picture = PicturePane { texture_uvs: vec![TextureUv::default(); 256], ..Default::default() };
     let window = WindowPane { frames: vec![WindowFrame::default(); 256], ..Default::default() };
     let text_box = TextBoxPane { line_transforms: table(256), text_flags: bit, ..Default::default() };
-    let no_bit_pane = TextBoxPane { line_transforms: table(1), ..Default::default() };
     vec![
         row(
             "a picture with 256 quads",
@@ -219,13 +213,20 @@ fn lists() -> Vec<Row> {
             library_writes(&frames),
             ["written to 2180; read 0 frames, ends at 112", "refused by 11: 4, 512"],
         ),
-        row(
-            "one line, and flag bit 6 clear",
-            nnbfl_writes(TXT1, AnyPane::Txt1(no_bit_pane), counts),
-            library_writes(&no_bit),
-            ["written to 177; read None lines, ends at 168", "refused by 15: 0, 0"],
-        ),
     ]
+}
+
+fn table(count: usize) -> Option<LineTransformTable> {
+    Some(LineTransformTable { entries: vec![LineTransform::default(); count] })
+}
+
+fn no_line_bit() -> Row {
+    let mut w = blank(TXT1);
+    w.words[LINES_PRESENT] = 1;
+    w.lines = vec![0; 2];
+    let pane = AnyPane::Txt1(TextBoxPane { line_transforms: table(1), ..Default::default() });
+    let known = ["written to 177; read None lines, ends at 168", "refused by 15: 0, 0"];
+    row("one line, and flag bit 6 clear", nnbfl_writes(TXT1, pane, counts), library_writes(&w), known)
 }
 
 fn text(pane: &AnyPane) -> String {
@@ -290,7 +291,9 @@ fn shapes() -> Vec<Row> {
 pub fn rows() -> Vec<Row> {
     let mut rows = reading();
     rows.extend(names());
+    rows.push(reserved());
     rows.extend(lists());
+    rows.push(no_line_bit());
     rows.extend(texts());
     rows.extend(shapes());
     let mut room = [0; 83];

@@ -152,9 +152,6 @@ impl From<'_> {
         let italic_tilt = self.float();
         let font_top_color = self.color();
         let font_bottom_color = self.color();
-        let table = || LineTransformTable {
-            entries: w.lines.chunks(2).map(|l| LineTransform { line_offset: f32::from_bits(l[0]), line_width: f32::from_bits(l[1]) }).collect(),
-        };
         TextBoxPane {
             base,
             text_buffer_size,
@@ -177,7 +174,7 @@ impl From<'_> {
             shadow_italic_tilt: self.float(),
             text: w.is(TEXT_PRESENT).then(|| String::from_utf16(&w.units).unwrap()),
             label: w.is(LABEL_PRESENT).then(|| String::from_utf8(w.label.clone()).unwrap()),
-            line_transforms: w.is(LINES_PRESENT).then(table),
+            line_transforms: w.is(LINES_PRESENT).then(|| line_table(&w.lines)),
             per_character_transform: None,
         }
     }
@@ -222,4 +219,9 @@ fn uvs(quads: &[u32]) -> Vec<TextureUv> {
         .chunks(8)
         .map(|q| TextureUv { top_left: corner(q, 0), top_right: corner(q, 1), bottom_left: corner(q, 2), bottom_right: corner(q, 3) })
         .collect()
+}
+
+fn line_table(lines: &[u32]) -> LineTransformTable {
+    let line = |l: &[u32]| LineTransform { line_offset: f32::from_bits(l[0]), line_width: f32::from_bits(l[1]) };
+    LineTransformTable { entries: lines.chunks(2).map(line).collect() }
 }

@@ -67,46 +67,47 @@ impl Whole {
     /// As document 01 compares it: what a write does not look at is blank.
     pub fn normal(&self) -> Self {
         let mut w = self.clone();
-        let kind = w.kind();
-        for word in &mut w.words[WORDS_END[kind as usize]..] {
-            *word = 0;
-        }
-        for count in w.words[NAME_COUNT] as usize..24 {
-            w.words[NAME + count] = 0;
-        }
-        for count in w.words[USER_COUNT] as usize..8 {
-            w.words[USER + count] = 0;
-        }
-        if kind == PIC1 {
-            w.words[PICTURE_QUADS] = 0;
-            if !w.is(SHAPE_PRESENT) {
-                w.words[SHAPE_INDEX] = 0;
+        let end = WORDS_END[w.kind() as usize];
+        w.words[end..].fill(0);
+        let (name, user) = (w.words[NAME_COUNT] as usize, w.words[USER_COUNT] as usize);
+        w.words[NAME + name..USER_COUNT].fill(0);
+        w.words[USER + user..TRANSLATION].fill(0);
+        match w.kind() {
+            PIC1 => {
+                w.words[PICTURE_QUADS] = 0;
+                w.words[SHAPE_INDEX] *= w.words[SHAPE_PRESENT];
             }
+            WND1 => {
+                w.words[FRAMES_COUNT] = 0;
+                w.words[CONTENT_QUADS] = 0;
+            }
+            TXT1 => {
+                w.words[LABEL_PLACE..LINES_PRESENT].fill(0);
+                w.words[LINES_COUNT] = 0;
+            }
+            _ => {}
         }
-        if kind == WND1 {
-            w.words[FRAMES_COUNT] = 0;
-            w.words[CONTENT_QUADS] = 0;
-        }
-        if kind == TXT1 {
-            w.words[LABEL_PLACE] = 0;
-            w.words[LABEL_LENGTH] = 0;
-            w.words[LINES_COUNT] = 0;
-        }
-        if !(kind == PIC1 || kind == WND1) {
-            w.quads.clear();
+        w.normal_lists();
+        w
+    }
+
+    // Drops the lists that the kind lacks, and those of absent parts.
+    fn normal_lists(&mut self) {
+        let (kind, text_box) = (self.kind(), self.kind() == TXT1);
+        if kind != PIC1 && kind != WND1 {
+            self.quads.clear();
         }
         if kind != WND1 {
-            w.frames.clear();
+            self.frames.clear();
         }
-        if !(kind == TXT1 && w.is(TEXT_PRESENT)) {
-            w.units.clear();
+        if !(text_box && self.is(TEXT_PRESENT)) {
+            self.units.clear();
         }
-        if !(kind == TXT1 && w.is(LINES_PRESENT)) {
-            w.lines.clear();
+        if !(text_box && self.is(LINES_PRESENT)) {
+            self.lines.clear();
         }
-        if !(kind == TXT1 && w.is(LABEL_PRESENT)) {
-            w.label.clear();
+        if !(text_box && self.is(LABEL_PRESENT)) {
+            self.label.clear();
         }
-        w
     }
 }

@@ -30,11 +30,9 @@ fn a_short_answer_or_record_is_told() {
     assert_eq!(calls::label(&[], &[0; RECORD_WORDS], &mut []), SHORT_ANSWER);
 }
 
-// Each word of each kind with its bound; none where every number is taken.
-fn bounds(kind: u64) -> Vec<(usize, u64)> {
-    let base = [(KIND, 1, 5), (PANE_FLAGS, 8, 2), (POSITION, 4, 3), (ALPHA, 1, 256), (FLAG_EX, 3, 2), (RESERVE0, 1, 256)];
-    let names = [(NAME, 24, 256), (USER, 8, 256), (TRANSLATION, 10, 1 << 32)];
-    let own: &[(usize, usize, u64)] = match kind {
+// Runs of words of each kind: where they begin, how many they are, and what they stay below.
+fn own_bounds(kind: u64) -> &'static [(usize, usize, u64)] {
+    match kind {
         1 => &[(PICTURE_COLORS, 16, 256), (PICTURE_MATERIAL, 1, 65536), (PICTURE_QUADS, 1, 256), (SHAPE_PRESENT, 1, 2), (SHAPE_INDEX, 1, 1 << 32)],
         2 => &[
             (TEXT_BUFFER_SIZE, 4, 65536),
@@ -71,8 +69,14 @@ fn bounds(kind: u64) -> Vec<(usize, u64)> {
         ],
         4 => &[(DIRECTION, 1, 1 << 32), (DEFAULT_MARGIN, 1, 1 << 32), (IS_ALIGN_LAST_PANE, 1, 2), (IS_VERTICAL_ALIGNMENT, 1, 2)],
         _ => &[],
-    };
-    let runs = base.iter().chain(&names).chain(own);
+    }
+}
+
+// Each word of each kind with its bound; none where every number is taken.
+fn bounds(kind: u64) -> Vec<(usize, u64)> {
+    let base = [(KIND, 1, 5), (PANE_FLAGS, 8, 2), (POSITION, 4, 3), (ALPHA, 1, 256), (FLAG_EX, 3, 2), (RESERVE0, 1, 256)];
+    let names = [(NAME, 24, 256), (USER, 8, 256), (TRANSLATION, 10, 1 << 32)];
+    let runs = base.iter().chain(&names).chain(own_bounds(kind));
     runs.flat_map(|(from, count, bound)| (*from..from + count).map(|word| (word, *bound))).collect()
 }
 

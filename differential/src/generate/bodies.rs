@@ -224,6 +224,29 @@ pub fn any(r: &mut Random) -> Case {
     Case { kind, data, place }
 }
 
+fn text_template(r: &mut Random, data: &mut Vec<u8>) {
+    let own = data.len();
+    random(r, 84, data);
+    put16(data, own + 2, 5);
+    put16(data, own + 10, 0x9040);
+    for (at, offset) in [(16, 168), (44, 172), (76, 176), (80, 0)] {
+        put32(data, own + at, offset);
+    }
+    data.extend(b"\x41\0\xe9\0ab\0\0\x02");
+    floats(r, 4, data);
+}
+
+fn window_template(r: &mut Random, data: &mut Vec<u8>) {
+    random(r, 16, data);
+    data.extend([2, 0xEC, 3, 4]);
+    data.extend([112u32, 164].map(u32::to_le_bytes).concat());
+    random(r, 18, data);
+    data.extend([1, 9]);
+    floats(r, 8, data);
+    data.extend([172u32, 176].map(u32::to_le_bytes).concat());
+    data.extend([1, 0, 6, 9, 2, 0, 5, 9]);
+}
+
 /// A body with few numbers in its lists and every part present, for going through its bytes.
 pub fn template(r: &mut Random, kind: u64, place: usize) -> Vec<u8> {
     let mut data = Vec::new();
@@ -231,7 +254,6 @@ pub fn template(r: &mut Random, kind: u64, place: usize) -> Vec<u8> {
     data.extend([1, 0x59, 255, 0xFF]);
     data.extend(b"P_pane\0\0\0\0\0\0\0\0\0\0\0\0\0\0\0\0\0\0user\0\0\0\0");
     floats(r, 10, &mut data);
-    let own = data.len();
     match kind {
         PIC1 => {
             random(r, 18, &mut data);
@@ -239,31 +261,8 @@ pub fn template(r: &mut Random, kind: u64, place: usize) -> Vec<u8> {
             floats(r, 8, &mut data);
             random(r, 4, &mut data);
         }
-        TXT1 => {
-            data.resize(own + 84, 0);
-            r.fill(&mut data[own..]);
-            put16(&mut data, own + 2, 5);
-            put16(&mut data, own + 10, 0x9040);
-            for (at, offset) in [(16, 168), (44, 172), (76, 176), (80, 0)] {
-                put32(&mut data, own + at, offset);
-            }
-            data.extend(b"\x41\0\xe9\0ab\0\0\x02");
-            floats(r, 4, &mut data);
-        }
-        WND1 => {
-            random(r, 16, &mut data);
-            data.extend([2, 0xEC, 3, 4]);
-            for offset in [112u32, 164] {
-                data.extend(offset.to_le_bytes());
-            }
-            random(r, 18, &mut data);
-            data.extend([1, 9]);
-            floats(r, 8, &mut data);
-            for offset in [172u32, 176] {
-                data.extend(offset.to_le_bytes());
-            }
-            data.extend([1, 0, 6, 9, 2, 0, 5, 9]);
-        }
+        TXT1 => text_template(r, &mut data),
+        WND1 => window_template(r, &mut data),
         ALI1 => random(r, 12, &mut data),
         _ => {}
     }

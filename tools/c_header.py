@@ -1,5 +1,5 @@
 #!/usr/bin/env python3
-"""Makes the constants of bindings/c/bidlomeqa.h from crates/exports/src/layout.rt, the one place that defines the layout.
+"""Makes the constants of bindings/c/bidlomeqa.h from crates/flat/src/layout.rt, the one place that defines the layout.
 
 Run it from anywhere. With --check it writes nothing and fails where the header is not what it would write.
 """
@@ -8,7 +8,7 @@ import sys
 from pathlib import Path
 
 ROOT = Path(__file__).resolve().parent.parent
-LAYOUT = ROOT / "crates/exports/src/layout.rt"
+LAYOUT = ROOT / "crates/flat/src/layout.rt"
 HEADER = ROOT / "bindings/c/bidlomeqa.h"
 BEGIN = "/* ---- made from layout.rt by tools/c_header.py */\n"
 END = "/* ---- end of what is made */\n"

@@ -1,2 +1,2 @@
 //! The flat layout of a record and the numbers of the answers, from the one file that defines them.
-include!("../../../crates/exports/src/layout.rt");
+include!("../../../crates/flat/src/layout.rt");

@@ -1,15 +1,18 @@
 //! A page is read with one buffer and no allocation for a pane.
 use bidlomeqa::*;
 use std::alloc::{GlobalAlloc, Layout, System};
-use std::sync::atomic::{AtomicUsize, Ordering};
+use std::cell::Cell;
 
 struct Counting;
 
-static ALLOCATIONS: AtomicUsize = AtomicUsize::new(0);
+// The allocations of this thread alone: the test's frame has others.
+thread_local! {
+    static ALLOCATIONS: Cell<usize> = const { Cell::new(0) };
+}
 
 unsafe impl GlobalAlloc for Counting {
     unsafe fn alloc(&self, layout: Layout) -> *mut u8 {
-        ALLOCATIONS.fetch_add(1, Ordering::Relaxed);
+        ALLOCATIONS.set(ALLOCATIONS.get() + 1);
         System.alloc(layout)
     }
 
@@ -34,7 +37,8 @@ fn reading_and_writing_a_page_allocates_nothing() {
     for record in &records[..5] {
         end = buffer.write_section(record, &mut out, end).unwrap();
     }
-    let before = ALLOCATIONS.load(Ordering::Relaxed);
+    let before = ALLOCATIONS.get();
+    assert!(before > 0);
     let (mut place, mut panes) = (0, 0);
     while let Ok(Section::Pane { view, next, .. }) = buffer.read_section(&strip, place) {
         panes += usize::from(view.base() == Pane::default());
@@ -44,7 +48,7 @@ fn reading_and_writing_a_page_allocates_nothing() {
     for record in &records {
         end = buffer.write_section(record, &mut out, end).unwrap();
     }
-    assert_eq!(ALLOCATIONS.load(Ordering::Relaxed), before);
+    assert_eq!(ALLOCATIONS.get(), before);
     assert_eq!((panes, place, end), (500, strip.len(), strip.len()));
     assert_eq!(out, strip);
 }

@@ -12,7 +12,8 @@ use differential::oracle;
 use differential::panes::AnyPane;
 use differential::random::Random;
 use differential::whole::*;
-use nnbfl::core::{Cursor, Writer};
+use nnbfl::bflyt::pane::{AlignmentPane, Pane, PicturePane, TextBoxPane, WindowPane};
+use nnbfl::core::{Cursor, ReadWriteable, Writer};
 use std::hint::black_box;
 use std::time::Instant;
 
@@ -77,8 +78,13 @@ fn read_nnbfl(bytes: &[u8]) {
         let mut cursor = Cursor { data: bytes, pos: place, section_start: Some(place), ..Default::default() };
         let letters = cursor.read_u32().unwrap().to_le_bytes();
         let size = cursor.read_u32().unwrap() as usize;
-        let kind = LETTERS.iter().position(|l| **l == letters).unwrap() as u64;
-        black_box(AnyPane::parse(kind, &mut cursor).ok());
+        match &letters {
+            b"pan1" => drop(black_box(Pane::parse(&mut cursor).unwrap())),
+            b"pic1" => drop(black_box(PicturePane::parse(&mut cursor).unwrap())),
+            b"txt1" => drop(black_box(TextBoxPane::parse(&mut cursor).unwrap())),
+            b"wnd1" => drop(black_box(WindowPane::parse(&mut cursor).unwrap())),
+            _ => drop(black_box(AlignmentPane::parse(&mut cursor).unwrap())),
+        }
         place += size;
     }
 }

@@ -1,0 +1,215 @@
+//! What the calls lend to the library, kept from call to call.
+use crate::calls::{self, Answer, ReadLists, WriteLists};
+use crate::layout::*;
+use crate::record::*;
+use crate::refusal::Refusal;
+use crate::view::View;
+use crate::words::Words;
+
+/// What a section read gives.
+#[derive(Debug, Clone, Copy)]
+pub enum Section<'a> {
+    /// No section is left.
+    End,
+    /// A section of another kind; the next one's place.
+    Passed { next: usize },
+    /// A pane; the place after its body, and the next section's place.
+    Pane { view: View<'a>, end: usize, next: usize },
+}
+
+/// What a body read gives: the pane, and the place after it.
+#[derive(Debug, Clone, Copy)]
+pub struct Body<'a> {
+    pub view: View<'a>,
+    pub end: usize,
+}
+
+/// A caption: a part of the strip, or of what was lent.
+#[derive(Debug, Clone, Copy, PartialEq, Eq)]
+pub enum Caption<'a> {
+    Strip(&'a [u8]),
+    Lent(&'a [u8]),
+}
+
+/// Full lists, a record's words, and room for the lists of a write.
+pub struct Buffer {
+    words: [u64; RECORD_WORDS],
+    quads: Vec<u32>,
+    units: Vec<u16>,
+    lines: Vec<u32>,
+    frames: Vec<u16>,
+    written: Written,
+}
+
+#[derive(Default)]
+struct Written {
+    quads: Vec<u32>,
+    lines: Vec<u32>,
+    frames: Vec<u16>,
+}
+
+impl Default for Buffer {
+    fn default() -> Self {
+        Self::new()
+    }
+}
+
+fn disagree(code: u64, answer: Answer) -> ! {
+    panic!("the static library answered {code} {answer:?}: it and this crate disagree about the layout")
+}
+
+fn refusal(answer: Answer) -> Refusal {
+    let [number, a, b] = answer;
+    Refusal::of(number, a, b).unwrap_or_else(|| disagree(REFUSED, answer))
+}
+
+impl Buffer {
+    /// A buffer whose lists are as long as any read needs.
+    pub fn new() -> Self {
+        Self {
+            words: [0; RECORD_WORDS],
+            quads: vec![0; 2040],
+            units: vec![0; 32767],
+            lines: vec![0; 510],
+            frames: vec![0; 510],
+            written: Written::default(),
+        }
+    }
+
+    fn view<'a>(&'a self, strip: &'a [u8]) -> View<'a> {
+        View { words: &self.words, quads: &self.quads, units: &self.units, lines: &self.lines, frames: &self.frames, strip }
+    }
+
+    /// Reads the section at `place` of the strip.
+    pub fn read_section<'a>(&'a mut self, strip: &'a [u8], place: usize) -> Result<Section<'a>, Refusal> {
+        let mut answer = Answer::default();
+        let mut lists = ReadLists { quads: &mut self.quads, units: &mut self.units, lines: &mut self.lines, frames: &mut self.frames };
+        match calls::read_section(strip, place, &mut lists, &mut self.words, &mut answer) {
+            END => Ok(Section::End),
+            PASSED => Ok(Section::Passed { next: answer[0] as usize }),
+            PANE => Ok(Section::Pane { view: self.view(strip), end: answer[0] as usize, next: answer[1] as usize }),
+            REFUSED => Err(refusal(answer)),
+            code => disagree(code, answer),
+        }
+    }
+
+    /// Reads a body of the kind at `place` of the data.
+    pub fn read_body<'a>(&'a mut self, kind: Kind, data: &'a [u8], place: usize) -> Result<Body<'a>, Refusal> {
+        let mut answer = Answer::default();
+        let mut lists = ReadLists { quads: &mut self.quads, units: &mut self.units, lines: &mut self.lines, frames: &mut self.frames };
+        match calls::read_body(kind as u64, data, place, &mut lists, &mut self.words, &mut answer) {
+            PANE => Ok(Body { view: self.view(data), end: answer[0] as usize }),
+            REFUSED => Err(refusal(answer)),
+            code => disagree(code, answer),
+        }
+    }
+
+    /// Writes the record as a section at `place`, and answers where it ends.
+    pub fn write_section(&mut self, record: &Record, out: &mut [u8], place: usize) -> Result<usize, Refusal> {
+        self.put(record);
+        let mut answer = Answer::default();
+        let code = calls::write_section(&self.words, self.lists(record), out, place, &mut answer);
+        written(code, answer)
+    }
+
+    /// Writes the record's body at `place`, and answers where it ends.
+    pub fn write_body(&mut self, record: &Record, out: &mut [u8], place: usize) -> Result<usize, Refusal> {
+        self.put(record);
+        let mut answer = Answer::default();
+        let code = calls::write_body(&self.words, self.lists(record), out, place, &mut answer);
+        written(code, answer)
+    }
+
+    fn lists<'a>(&'a self, record: &'a Record) -> WriteLists<'a> {
+        let (units, label) = match &record.own {
+            Own::Txt1(own) => (own.text.as_deref(), own.label.as_deref()),
+            _ => (None, None),
+        };
+        WriteLists {
+            quads: &self.written.quads,
+            units: units.unwrap_or(&[]),
+            lines: &self.written.lines,
+            frames: &self.written.frames,
+            label: label.unwrap_or("").as_bytes(),
+        }
+    }
+
+    fn put(&mut self, record: &Record) {
+        self.words[KIND] = record.own.kind() as u64;
+        record.base.put(&mut self.words[PANE_FLAGS..]);
+        match &record.own {
+            Own::Pan1 => {}
+            Own::Pic1(own) => self.put_picture(own),
+            Own::Txt1(own) => self.put_text_box(own),
+            Own::Wnd1(own) => self.put_window(own),
+            Own::Ali1(own) => own.put(&mut self.words[OWN..]),
+        }
+    }
+
+    fn put_picture(&mut self, own: &PicturePane) {
+        let words = &mut self.words;
+        own.vertex_colors.put(&mut words[PICTURE_COLORS..]);
+        own.material_index.put(&mut words[PICTURE_MATERIAL..]);
+        words[PICTURE_QUADS] = 0;
+        own.shape_info_array_index.is_some().put(&mut words[SHAPE_PRESENT..]);
+        own.shape_info_array_index.unwrap_or(0).put(&mut words[SHAPE_INDEX..]);
+        flat(&own.quads, &mut self.written.quads, |word| word as u32);
+    }
+
+    fn put_text_box(&mut self, own: &TextBoxPane) {
+        let words = &mut self.words;
+        own.fixed.put(&mut words[OWN..]);
+        words[TEXT_PRESENT] = u64::from(own.text.is_some());
+        words[LABEL_PRESENT] = u64::from(own.label.is_some());
+        words[LABEL_PLACE] = 0;
+        words[LABEL_LENGTH] = 0;
+        words[LINES_PRESENT] = u64::from(own.line_transforms.is_some());
+        words[LINES_COUNT] = 0;
+        flat(own.line_transforms.as_deref().unwrap_or(&[]), &mut self.written.lines, |word| word as u32);
+    }
+
+    fn put_window(&mut self, own: &WindowPane) {
+        let words = &mut self.words;
+        own.inflation.put(&mut words[INFLATION..]);
+        own.frame_size.put(&mut words[FRAME_SIZE..]);
+        own.flag.put(&mut words[WINDOW_FLAGS..]);
+        words[FRAMES_COUNT] = 0;
+        own.content.vertex_colors.put(&mut words[CONTENT_COLORS..]);
+        own.content.material_index.put(&mut words[CONTENT_MATERIAL..]);
+        words[CONTENT_QUADS] = 0;
+        flat(&own.content.quads, &mut self.written.quads, |word| word as u32);
+        flat(&own.frames, &mut self.written.frames, |word| word as u16);
+    }
+}
+
+fn written(code: u64, answer: Answer) -> Result<usize, Refusal> {
+    match code {
+        WRITTEN => Ok(answer[0] as usize),
+        REFUSED => Err(refusal(answer)),
+        code => disagree(code, answer),
+    }
+}
+
+// The numbers of the entries, one after another.
+fn flat<T: Words, N>(entries: &[T], numbers: &mut Vec<N>, number: impl Fn(u64) -> N) {
+    let mut words = [0; 8];
+    numbers.clear();
+    for entry in entries {
+        entry.put(&mut words);
+        numbers.extend(words[..T::COUNT].iter().map(|word| number(*word)));
+    }
+}
+
+impl View<'_> {
+    /// The label if there is one, otherwise the lent caption.
+    pub fn caption<'b>(&self, strip: &'b [u8], lent: &'b [u8]) -> Caption<'b> {
+        let mut answer = Answer::default();
+        let code = calls::caption(strip, self.words(), lent, &mut answer);
+        let [which, place, length] = answer;
+        match (code, which) {
+            (PART, 0) => Caption::Strip(&strip[place as usize..][..length as usize]),
+            (PART, 1) => Caption::Lent(&lent[..length as usize]),
+            _ => disagree(code, answer),
+        }
+    }
+}

@@ -1,0 +1,136 @@
+//! A pane where a read left it: nothing is copied until it is asked for.
+use crate::layout::*;
+use crate::record::*;
+use crate::words::Words;
+
+/// A pane in a buffer's words and lists and in the strip that was read.
+#[derive(Debug, Clone, Copy)]
+pub struct View<'a> {
+    pub(crate) words: &'a [u64; RECORD_WORDS],
+    pub(crate) quads: &'a [u32],
+    pub(crate) units: &'a [u16],
+    pub(crate) lines: &'a [u32],
+    pub(crate) frames: &'a [u16],
+    pub(crate) strip: &'a [u8],
+}
+
+impl<'a> View<'a> {
+    /// The words of the record, as `layout` describes them.
+    pub fn words(&self) -> &'a [u64; RECORD_WORDS] {
+        self.words
+    }
+
+    pub fn kind(&self) -> Kind {
+        Kind::take(&self.words[KIND..])
+    }
+
+    /// The base that every pane has.
+    pub fn base(&self) -> Pane {
+        Pane::take(&self.words[PANE_FLAGS..])
+    }
+
+    fn count(&self, pairs: &[(Kind, usize)]) -> usize {
+        let kind = self.kind();
+        pairs.iter().find(|(k, _)| *k == kind).map_or(0, |(_, word)| self.words[*word] as usize)
+    }
+
+    /// The bits of the quads' floats, eight a quad; none where the kind has no quads.
+    pub fn quads(&self) -> &'a [u32] {
+        &self.quads[..8 * self.count(&[(Kind::Pic1, PICTURE_QUADS), (Kind::Wnd1, CONTENT_QUADS)])]
+    }
+
+    /// Material and flip of each frame; none where the kind has no frames.
+    pub fn frames(&self) -> &'a [u16] {
+        &self.frames[..2 * self.count(&[(Kind::Wnd1, FRAMES_COUNT)])]
+    }
+
+    fn present(&self, word: usize) -> bool {
+        self.kind() == Kind::Txt1 && self.words[word] != 0
+    }
+
+    /// The units of a text box's text.
+    pub fn text(&self) -> Option<&'a [u16]> {
+        self.present(TEXT_PRESENT).then(|| &self.units[..self.words[TEXT_LENGTH] as usize / 2])
+    }
+
+    /// The bits of offset and width of each line of a text box's table.
+    pub fn lines(&self) -> Option<&'a [u32]> {
+        self.present(LINES_PRESENT).then(|| &self.lines[..2 * self.words[LINES_COUNT] as usize])
+    }
+
+    /// A text box's label: a part of the strip, in well-formed UTF-8.
+    pub fn label(&self) -> Option<&'a [u8]> {
+        let place = self.words[LABEL_PLACE] as usize;
+        self.present(LABEL_PRESENT).then(|| &self.strip[place..place + self.words[LABEL_LENGTH] as usize])
+    }
+
+    /// The fixed fields of a text box.
+    pub fn text_box(&self) -> Option<TextBoxFixed> {
+        (self.kind() == Kind::Txt1).then(|| TextBoxFixed::take(&self.words[OWN..]))
+    }
+
+    /// The fields of an alignment pane.
+    pub fn alignment(&self) -> Option<AlignmentPane> {
+        (self.kind() == Kind::Ali1).then(|| AlignmentPane::take(&self.words[OWN..]))
+    }
+
+    /// The pane with lists of its own.
+    pub fn record(&self) -> Record {
+        let own = match self.kind() {
+            Kind::Pan1 => Own::Pan1,
+            Kind::Pic1 => Own::Pic1(self.picture()),
+            Kind::Txt1 => Own::Txt1(self.whole_text_box()),
+            Kind::Wnd1 => Own::Wnd1(self.window()),
+            Kind::Ali1 => Own::Ali1(AlignmentPane::take(&self.words[OWN..])),
+        };
+        Record { base: self.base(), own }
+    }
+
+    fn quad_list(&self) -> Vec<Quad> {
+        listed(self.quads(), 8)
+    }
+
+    fn picture(&self) -> PicturePane {
+        PicturePane {
+            vertex_colors: Words::take(&self.words[PICTURE_COLORS..]),
+            material_index: Words::take(&self.words[PICTURE_MATERIAL..]),
+            shape_info_array_index: (self.words[SHAPE_PRESENT] != 0).then(|| Words::take(&self.words[SHAPE_INDEX..])),
+            quads: self.quad_list(),
+        }
+    }
+
+    fn whole_text_box(&self) -> TextBoxPane {
+        TextBoxPane {
+            fixed: TextBoxFixed::take(&self.words[OWN..]),
+            text: self.text().map(<[u16]>::to_vec),
+            label: self.label().map(|l| String::from_utf8(l.to_vec()).expect("a label that was read is well-formed")),
+            line_transforms: self.lines().map(|lines| listed(lines, 2)),
+        }
+    }
+
+    fn window(&self) -> WindowPane {
+        WindowPane {
+            inflation: Words::take(&self.words[INFLATION..]),
+            frame_size: Words::take(&self.words[FRAME_SIZE..]),
+            flag: Words::take(&self.words[WINDOW_FLAGS..]),
+            content: WindowContent {
+                vertex_colors: Words::take(&self.words[CONTENT_COLORS..]),
+                material_index: Words::take(&self.words[CONTENT_MATERIAL..]),
+                quads: self.quad_list(),
+            },
+            frames: listed(self.frames(), 2),
+        }
+    }
+}
+
+// The entries of a flat list, each of `width` numbers.
+fn listed<T: Words, N: Copy + Into<u64>>(numbers: &[N], width: usize) -> Vec<T> {
+    let mut words = [0; 8];
+    let entry = |part: &[N]| {
+        for (word, number) in words.iter_mut().zip(part) {
+            *word = (*number).into();
+        }
+        T::take(&words)
+    };
+    numbers.chunks_exact(width).map(entry).collect()
+}

@@ -1,0 +1,3 @@
+// Stub.
+pub mod anim_info;
+pub mod targets;

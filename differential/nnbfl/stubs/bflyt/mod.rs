@@ -1,0 +1,4 @@
+// Stub.
+pub mod file;
+pub mod flags;
+pub mod pane;

@@ -1,0 +1,5 @@
+// Stub: the modules of nnbfl that its five panes reach.
+pub mod bflan;
+pub mod bflyt;
+pub mod core;
+pub mod ui2d;

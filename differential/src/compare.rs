@@ -1,0 +1,276 @@
+//! One call of the library held against what must be answered.
+use crate::fault::{Fault, Left};
+use crate::oracle::{self, Outcome};
+use crate::tally::{Case, Tally};
+use crate::whole::*;
+use bidlomeqa::calls::{self, ReadLists};
+use bidlomeqa::layout::*;
+use bidlomeqa::{Buffer, Kind};
+
+const WORD: u64 = 0x5A5A_5A5A_5A5A_5A5A;
+const QUAD: u32 = 0xA5A5_A5A5;
+const UNIT: u16 = 0xA5A5;
+const BYTE: u8 = 0xA5;
+
+/// Numbers beyond the lists and bytes beyond the output that are watched too.
+const GUARD: usize = 8;
+
+/// What is lent to a read.
+#[derive(PartialEq)]
+struct Lent {
+    words: Vec<u64>,
+    quads: Vec<u32>,
+    units: Vec<u16>,
+    lines: Vec<u32>,
+    frames: Vec<u16>,
+}
+
+impl Lent {
+    fn new() -> Self {
+        Self {
+            words: vec![WORD; RECORD_WORDS],
+            quads: vec![QUAD; FULL[0] + GUARD],
+            units: vec![UNIT; FULL[1] + GUARD],
+            lines: vec![QUAD; FULL[2] + GUARD],
+            frames: vec![UNIT; FULL[3] + GUARD],
+        }
+    }
+
+    // The pane as a read must leave it: the words of its kind, the first numbers of its lists.
+    fn holds(&mut self, w: &Whole) {
+        let end = WORDS_END[w.kind() as usize];
+        self.words[..end].copy_from_slice(&w.words[..end]);
+        self.quads[..w.quads.len()].copy_from_slice(&w.quads);
+        self.units[..w.units.len()].copy_from_slice(&w.units);
+        self.lines[..w.lines.len()].copy_from_slice(&w.lines);
+        self.frames[..w.frames.len()].copy_from_slice(&w.frames);
+    }
+
+    // Undoes `holds`.
+    fn blank(&mut self, w: &Whole) {
+        self.words.fill(WORD);
+        self.quads[..w.quads.len()].fill(QUAD);
+        self.units[..w.units.len()].fill(UNIT);
+        self.lines[..w.lines.len()].fill(QUAD);
+        self.frames[..w.frames.len()].fill(UNIT);
+    }
+
+    fn differences(&self, found: &Self) -> Vec<String> {
+        let mut what = Vec::new();
+        different("word", &self.words, &found.words, &mut what);
+        different("quads", &self.quads, &found.quads, &mut what);
+        different("units", &self.units, &found.units, &mut what);
+        different("lines", &self.lines, &found.lines, &mut what);
+        different("frames", &self.frames, &found.frames, &mut what);
+        what
+    }
+}
+
+fn different<T: PartialEq + std::fmt::Debug>(name: &str, expected: &[T], found: &[T], what: &mut Vec<String>) {
+    for (i, (e, f)) in expected.iter().zip(found).enumerate() {
+        if e != f && what.len() < 8 {
+            what.push(format!("{name} {i}: expected {e:?}, found {f:?}"));
+        }
+    }
+}
+
+fn hex(bytes: &[u8]) -> String {
+    let digits: String = bytes.iter().take(400).map(|b| format!("{b:02X}")).collect();
+    format!("{} bytes {digits}{}", bytes.len(), if bytes.len() > 400 { ".." } else { "" })
+}
+
+/// How long the lists are that a read lends.
+pub type Lengths = [usize; 4];
+
+/// The comparison: the two sides' lists, outputs and counts.
+pub struct Comparison {
+    pub tally: Tally,
+    pub fault: Fault,
+    pub generator: &'static str,
+    expected: Lent,
+    found: Lent,
+    whole: Whole,
+    buffer: Buffer,
+    out: Vec<u8>,
+    model: Vec<u8>,
+    before: Vec<u8>,
+    scratch: Vec<u8>,
+}
+
+impl Comparison {
+    pub fn new(quiet: bool, fault: Fault) -> Self {
+        Self {
+            tally: Tally::new(quiet),
+            fault,
+            generator: "",
+            expected: Lent::new(),
+            found: Lent::new(),
+            whole: Whole::default(),
+            buffer: Buffer::new(),
+            out: Vec::new(),
+            model: Vec::new(),
+            before: Vec::new(),
+            scratch: Vec::new(),
+        }
+    }
+
+    /// A body read with full lists.
+    pub fn body(&mut self, kind: u64, data: &[u8], place: usize) -> Outcome {
+        self.body_with(kind, data, place, FULL)
+    }
+
+    /// A body read with lists of these lengths.
+    pub fn body_with(&mut self, kind: u64, data: &[u8], place: usize, lengths: Lengths) -> Outcome {
+        let expected = oracle::read_body(kind, data, place, lengths, &mut self.whole);
+        let call = |lists: &mut ReadLists, words: &mut [u64], answer: &mut [u64]| calls::read_body(kind, data, place, lists, words, answer);
+        let case = Case { generator: self.generator, call: "read body", kind };
+        self.read(case, expected, lengths, call, || format!("kind {kind}, place {place}, {}", hex(data)));
+        if expected.0 == PANE && self.tally.cases % 16 == 0 {
+            self.typed(case, data, place);
+        }
+        expected
+    }
+
+    /// A section read with full lists; what a pane holds stays in `last`.
+    pub fn section(&mut self, data: &[u8], place: usize) -> Outcome {
+        self.section_with(data, place, FULL)
+    }
+
+    /// A section read with lists of these lengths.
+    pub fn section_with(&mut self, data: &[u8], place: usize, lengths: Lengths) -> Outcome {
+        let expected = oracle::read_section(data, place, lengths, &mut self.whole);
+        let call = |lists: &mut ReadLists, words: &mut [u64], answer: &mut [u64]| calls::read_section(data, place, lists, words, answer);
+        let kind = data.get(place..).and_then(|s| LETTERS.iter().position(|l| s.starts_with(&l[..]))).unwrap_or(5) as u64;
+        let case = Case { generator: self.generator, call: "read section", kind };
+        self.read(case, expected, lengths, call, || format!("place {place}, {}", hex(data)));
+        expected
+    }
+
+    /// The pane that the last read with the answer PANE gave.
+    pub fn last(&self) -> &Whole {
+        &self.whole
+    }
+
+    fn read(
+        &mut self,
+        case: Case,
+        expected: Outcome,
+        lengths: Lengths,
+        call: impl Fn(&mut ReadLists, &mut [u64], &mut [u64]) -> u64,
+        input: impl Fn() -> String,
+    ) {
+        if expected.0 == PANE {
+            self.expected.holds(&self.whole);
+        }
+        let Lent { words, quads, units, lines, frames } = &mut self.found;
+        let mut lists = ReadLists {
+            quads: &mut quads[..lengths[0]],
+            units: &mut units[..lengths[1]],
+            lines: &mut lines[..lengths[2]],
+            frames: &mut frames[..lengths[3]],
+        };
+        let mut answer = [WORD; ANSWER_WORDS];
+        let mut code = call(&mut lists, words, &mut answer);
+        self.fault.apply(Left { code: &mut code, answer: &mut answer, words, quads, units, lines, frames, out: &mut [], before: &[] });
+        if (code, answer) != expected || self.found != self.expected {
+            let what = self.expected.differences(&self.found);
+            self.tally.differs(case, &expected, &(code, answer), &what, &input());
+            (self.expected, self.found) = (Lent::new(), Lent::new());
+        } else if expected.0 == PANE {
+            self.expected.blank(&self.whole);
+            self.found.blank(&self.whole);
+        }
+        self.tally.count(case, &expected);
+    }
+
+    // The typed record of the crate, read and written back, against nnbfl's bytes.
+    fn typed(&mut self, case: Case, data: &[u8], place: usize) {
+        let record = match self.buffer.read_body(Kind::CASES[case.kind as usize], data, place) {
+            Ok(body) => body.view.record(),
+            Err(refusal) => panic!("a typed read was refused: {refusal}"),
+        };
+        self.scratch = oracle::written(&self.whole, false, place, std::mem::take(&mut self.scratch));
+        let end = self.scratch.len();
+        let mut out = vec![0; end];
+        let answer = self.buffer.write_body(&record, &mut out, place);
+        let case = Case { call: "typed body", ..case };
+        let found = answer.map_or_else(|no| (REFUSED, no.figures().into()), |end| (WRITTEN, [end as u64, 0, 0]));
+        let expected = (WRITTEN, [end as u64, 0, 0]);
+        if found != expected || out[place..] != self.scratch[place..] {
+            let mut what = Vec::new();
+            different("byte", &self.scratch[place..], &out[place..], &mut what);
+            self.tally.differs(case, &expected, &found, &what, &hex(data));
+        }
+        self.tally.count(case, &expected);
+    }
+
+    /// A body or a section written into an output of its own.
+    pub fn write(&mut self, w: &Whole, section: bool, place: usize, length: usize) -> Outcome {
+        self.fresh(length);
+        self.write_over(w, section, place, length)
+    }
+
+    /// A new output for a list of section writes.
+    pub fn fresh(&mut self, length: usize) {
+        self.out.clear();
+        self.out.resize(length + GUARD, BYTE);
+        self.model.clear();
+        self.model.resize(length + GUARD, BYTE);
+    }
+
+    /// What nnbfl's writes made of the output.
+    pub fn model(&self, end: usize) -> Vec<u8> {
+        self.model[..end].to_vec()
+    }
+
+    /// A body or a section written over what the output holds.
+    pub fn write_over(&mut self, w: &Whole, section: bool, place: usize, length: usize) -> Outcome {
+        let expected = oracle::write(w, section, place, &mut self.model[..length], &mut self.scratch);
+        self.before.clear();
+        self.before.extend_from_slice(&self.out);
+        let mut answer = [WORD; ANSWER_WORDS];
+        let out = &mut self.out[..length];
+        let write = if section { calls::write_section } else { calls::write_body };
+        let mut code = write(&w.words, w.lists(), out, place, &mut answer);
+        self.fault.apply(Left { out: &mut self.out, before: &self.before, ..Left::answer(&mut code, &mut answer) });
+        let case = Case { generator: self.generator, call: if section { "write section" } else { "write body" }, kind: w.kind() };
+        if (code, answer) != expected || self.out != self.model {
+            let mut what = Vec::new();
+            different("byte", &self.model, &self.out, &mut what);
+            let input = format!("place {place}, output {length}, {w:?}");
+            self.tally.differs(case, &expected, &(code, answer), &what, &input);
+            self.out.clone_from(&self.model);
+        }
+        self.tally.count(case, &expected);
+        expected
+    }
+
+    /// Label and caption of a record in a strip.
+    pub fn parts(&mut self, strip: &[u8], words: &[u64], lent: &[u8]) {
+        let mut answer = [WORD; ANSWER_WORDS];
+        let code = calls::label(strip, words, &mut answer);
+        self.part("label", oracle::label(strip, words), code, answer, words[KIND]);
+        let mut answer = [WORD; ANSWER_WORDS];
+        let code = calls::caption(strip, words, lent, &mut answer);
+        self.part("caption", oracle::caption(strip, words, lent), code, answer, words[KIND]);
+    }
+
+    fn part(&mut self, call: &'static str, expected: Outcome, mut code: u64, mut answer: [u64; ANSWER_WORDS], kind: u64) {
+        self.fault.apply(Left::answer(&mut code, &mut answer));
+        let case = Case { generator: self.generator, call, kind };
+        if (code, answer) != expected {
+            self.tally.differs(case, &expected, &(code, answer), &[], "");
+        }
+        self.tally.count(case, &expected);
+    }
+
+    /// A claim about several calls, as that a record comes back as it was written.
+    pub fn claim(&mut self, call: &'static str, kind: u64, holds: bool, what: impl Fn() -> String) {
+        self.tally.claims += 1;
+        if !holds {
+            let case = Case { generator: self.generator, call, kind };
+            let none = (PANE, [0; 3]);
+            self.tally.differs(case, &none, &none, &[what()], "");
+        }
+    }
+}

@@ -1,0 +1,11 @@
+//! nnbfl against the static library: what both answer to the same bytes and to the same records.
+pub mod compare;
+pub mod fault;
+pub mod generate;
+pub mod oracle;
+pub mod outside;
+pub mod panes;
+pub mod random;
+pub mod tally;
+mod unflatten;
+pub mod whole;

@@ -1,0 +1,110 @@
+//! How many cases there were, by generator, call, kind and outcome, and which of them differed.
+use crate::oracle::Outcome;
+use bidlomeqa::layout::*;
+use std::collections::{BTreeMap, HashMap};
+use std::time::Instant;
+
+/// What one case was: the call, and the kind (5 where none was met).
+#[derive(Clone, Copy, PartialEq, Eq, Hash, PartialOrd, Ord)]
+pub struct Case {
+    pub generator: &'static str,
+    pub call: &'static str,
+    pub kind: u64,
+}
+
+pub struct Tally {
+    counts: HashMap<(Case, u64, u64), u64>,
+    pub cases: u64,
+    /// Claims about several cases together, which are no cases of their own.
+    pub claims: u64,
+    pub differences: u64,
+    /// Says nothing while it runs.
+    pub quiet: bool,
+    start: Instant,
+}
+
+const KINDS: [&str; 6] = ["pan1", "pic1", "txt1", "wnd1", "ali1", "-"];
+
+fn outcome_name(code: u64, number: u64) -> String {
+    match code {
+        END => "end".into(),
+        PASSED => "passed".into(),
+        PANE => "pane".into(),
+        WRITTEN => "written".into(),
+        PART => "part".into(),
+        BAD_WORD => "bad word".into(),
+        REFUSED => format!("refused {number:2}"),
+        other => format!("code {other}"),
+    }
+}
+
+impl Tally {
+    pub fn new(quiet: bool) -> Self {
+        Self { counts: HashMap::new(), cases: 0, claims: 0, differences: 0, quiet, start: Instant::now() }
+    }
+
+    pub fn seconds(&self) -> f64 {
+        self.start.elapsed().as_secs_f64()
+    }
+
+    pub fn count(&mut self, case: Case, outcome: &Outcome) {
+        let number = if outcome.0 == REFUSED { outcome.1[0] } else { 0 };
+        *self.counts.entry((case, outcome.0, number)).or_insert(0) += 1;
+        self.cases += 1;
+        if !self.quiet && self.cases % 250_000 == 0 {
+            println!("{:9} cases, {} differences, {:.0} s, at {}", self.cases, self.differences, self.seconds(), case.generator);
+        }
+    }
+
+    /// Counts a difference and tells the first ones.
+    pub fn differs(&mut self, case: Case, expected: &Outcome, found: &Outcome, what: &[String], input: &str) {
+        self.differences += 1;
+        if !self.quiet && self.differences <= 10 {
+            let kind = KINDS[case.kind as usize];
+            println!("DIFFERENCE in case {} ({}, {}, {kind})", self.cases + 1, case.generator, case.call);
+            println!("  expected {expected:?}, found {found:?}");
+            for line in what.iter().take(8) {
+                println!("  {line}");
+            }
+            println!("  {input}");
+        }
+    }
+
+    fn sums<K: Ord>(&self, key: impl Fn(&Case, u64, u64) -> K) -> BTreeMap<K, u64> {
+        let mut sums = BTreeMap::new();
+        for ((case, code, number), count) in &self.counts {
+            *sums.entry(key(case, *code, *number)).or_insert(0) += count;
+        }
+        sums
+    }
+
+    // How many cases nnbfl itself decided: what was read or written, where bytes ran out or no NUL was met in a body, and where an output ends.
+    fn judged(&self) -> u64 {
+        let by_nnbfl = |code: u64, number: u64| matches!((code, number), (PANE | WRITTEN, _) | (REFUSED, 4 | 5 | 16));
+        self.counts.iter().filter(|((_, code, number), _)| by_nnbfl(*code, *number)).map(|(_, count)| count).sum()
+    }
+
+    /// Prints the counts.
+    pub fn report(&self) {
+        println!("\ncases by generator");
+        for (generator, count) in self.sums(|c, _, _| c.generator) {
+            println!("  {generator:34} {count:9}");
+        }
+        println!("\ncases by call, outcome and kind");
+        println!("  {:14} {:11} {}", "", "", KINDS.map(|k| format!("{k:>9}")).join(""));
+        let rows = self.sums(|c, code, number| (c.call, code, number));
+        let cells = self.sums(|c, code, number| (c.call, code, number, c.kind));
+        for (call, code, number) in rows.into_keys() {
+            let cell = |kind: u64| cells.get(&(call, code, number, kind)).map_or("        .".into(), |n| format!("{n:9}"));
+            println!("  {call:14} {:11} {}", outcome_name(code, number), [0, 1, 2, 3, 4, 5].map(cell).join(""));
+        }
+        println!("\n{} cases by nnbfl's own answer, the others by document 01's table", self.judged());
+        println!("{} records came back as they were written, or strips ended where they must", self.claims);
+        println!("{} cases in {:.0} s, {} differences", self.cases, self.seconds(), self.differences);
+    }
+
+    /// Whether a case of the call had this outcome.
+    pub fn met(&self, call: &str, code: u64, number: u64) -> bool {
+        self.counts.keys().any(|(c, k, n)| c.call == call && *k == code && *n == number)
+    }
+}

@@ -40,7 +40,7 @@ pub fn read_strip(strip: &[u8]) -> Result<Vec<Record>, Refused> {
 /// Writes the records, one section after another.
 pub fn write_strip(records: &[Record]) -> Result<Vec<u8>, Refused> {
     let mut buffer = Buffer::new();
-    let mut out = vec![0; 256 * records.len()];
+    let mut out = vec![0; (256 * records.len()).min(16_777_216)];
     let mut place = 0;
     for record in records {
         place = match buffer.write_section(record, &mut out, place) {

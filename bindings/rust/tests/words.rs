@@ -129,6 +129,12 @@ fn the_header_is_made_from_the_layout() {
 }
 
 #[test]
+fn the_sentences_are_those_of_the_docs() {
+    let check = Command::new("python3").arg(repository().join("tools/refusals.py")).status().unwrap();
+    assert!(check.success());
+}
+
+#[test]
 fn the_c_example_runs() {
     let program = Path::new(env!("CARGO_TARGET_TMPDIR")).join("example");
     let folder = std::env::var_os("BIDLOMEQA_LIB").map_or(repository().join("target/staticlib"), PathBuf::from);

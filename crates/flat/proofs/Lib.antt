@@ -6,3 +6,5 @@ mod BackParts
 mod BackBase
 mod BackOwn
 pub mod Again
+mod SameParts
+pub mod SameWords

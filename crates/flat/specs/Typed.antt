@@ -1,6 +1,8 @@
 -- What the types of the code guarantee of a record, and what a read leaves blank: the laws on words coming back ask it.
 use mathlib.Core.Path.{_≡_}
 use Prim.Native.Nat.{ℕ, _<_}
+use mathlib.Core.List.{List}
+use lib.ListN.{getD}
 use Rattle.pane.specs.declared.Pane.{Pane}
 use Rattle.picture.specs.Picture.{blankPicture}
 use Rattle.text_box.specs.TextBox.{blankTextBox}
@@ -32,3 +34,11 @@ OthersBlank Pic1 r = (r .«text_box» ≡ blankTextBox) × (r .window ≡ blankW
 OthersBlank Txt1 r = (r .picture ≡ blankPicture) × (r .window ≡ blankWindow) × (r .alignment ≡ blankAlignment)
 OthersBlank Wnd1 r = (r .picture ≡ blankPicture) × (r .«text_box» ≡ blankTextBox) × (r .alignment ≡ blankAlignment)
 OthersBlank Ali1 r = (r .picture ≡ blankPicture) × (r .«text_box» ≡ blankTextBox) × (r .window ≡ blankWindow)
+
+-- words in which what is absent is 0: a shape; a label and a line table
+abbrev pub Plain : Kind → List ℕ → Type 0
+Plain Pan1 w = Unit {0}
+Plain Pic1 w = getD w 80 0 ≡ 0 → getD w 81 0 ≡ 0
+Plain Txt1 w = (getD w 111 0 ≡ 0 → (getD w 112 0 ≡ 0) × (getD w 113 0 ≡ 0)) × (getD w 114 0 ≡ 0 → getD w 115 0 ≡ 0)
+Plain Wnd1 w = Unit {0}
+Plain Ali1 w = Unit {0}

@@ -18,7 +18,7 @@ use Rattle.strip.specs.declared.record.Record.{Record}
 use Rattle.flat.specs.Base.{baseWords}
 use Rattle.flat.specs.Records.{kindNumber, kindOf, ownWords, recordWords, recordBy, recordOf}
 use Rattle.flat.specs.Typed.{TypedWords, OthersBlank}
-use Rattle.flat.proofs.Lengths.{base-long}
+use Rattle.flat.proofs.Lengths.{base-long, record-long}
 use Rattle.flat.proofs.BackParts.{nth}
 use Rattle.flat.proofs.BackBase.{base-back, picture-back, pane-alignment-back}
 use Rattle.flat.proofs.BackOwn.{text-box-back, window-back}
@@ -54,7 +54,14 @@ record-back {w} r t o a =
     let e = ap kindOf (nth (kindNumber (r .kind) ∷ []) k 0 (kindNumber (r .kind)) (omega arith) refl) ∙ kind-back (r .kind) in
     ap (λ (j : Kind). recordBy j w) e ∙ own-back r (r .kind) refl t o b own
 
--- THE LAW: stored by a read into any words that are long enough, and taken by a write, a record is the same
-pub handed-back : (r : Record) (w : List ℕ) → TypedWords r → OthersBlank (r .kind) r → length (recordWords r) ≤ length w → recordOf (splice w 0 (recordWords r)) ≡ r
+-- THE LAW: stored by a read into a record's words, and taken from them by a write, a record is the same
+pub handed-back : (r : Record) (w : List ℕ) → TypedWords r → OthersBlank (r .kind) r → 116 ≤ length w → recordOf (splice w 0 (recordWords r)) ≡ r
 handed-back r w t o h =
-    record-back r t o (record { before = []; after = drop (0 + length (recordWords r)) w; whole = splice-cut w 0 (recordWords r) (omega arith); place = refl })
+    let k = record-long r (t .fields .base .name) (t .fields .base .user) in
+    record-back r t o
+    (record {
+      before = [];
+      after = drop (0 + length (recordWords r)) w;
+      whole = splice-cut w 0 (recordWords r) (omega arith);
+      place = refl;
+    })

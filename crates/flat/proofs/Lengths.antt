@@ -14,13 +14,18 @@ use Rattle.text_box_read.specs.declared.Text.{Text}
 use Rattle.text_box_read.specs.declared.Text.the-variants as text
 use Rattle.text_box_read.specs.declared.Label.{Label}
 use Rattle.text_box_read.specs.declared.Label.the-variants as label
+use Rattle.text_box_read.specs.declared.LineTable.{LineTable}
+use Rattle.text_box_read.specs.declared.LineTable.the-variants as lines
 use Rattle.text_box_read.specs.declared.TextBoxPane.{TextBoxPane}
+use Rattle.picture.specs.declared.ShapeIndex.{ShapeIndex}
+use Rattle.picture.specs.declared.ShapeIndex.the-variants as shape
 use Rattle.strip.specs.declared.kind.Kind.{Kind}
-use Rattle.strip.specs.declared.kind.Kind.the-variants.{Ali1}
+use Rattle.strip.specs.declared.kind.Kind.the-variants.{Pan1, Pic1, Txt1, Wnd1, Ali1}
+use Rattle.strip.specs.declared.record.Record.{Record}
 use Rattle.flat.specs.Base.{nameWords, userWords, transformWords, baseWords}
 use Rattle.flat.specs.Words.{colorWords}
-use Rattle.flat.specs.Own.{measureWords, fontWords, textWords, labelWords}
-use Rattle.flat.specs.Records.{kindOf}
+use Rattle.flat.specs.Own.{shapeWords, pictureWords, measureWords, fontWords, shadowWords, textWords, labelWords, linesWords, partsWords, textBoxWords, windowWords}
+use Rattle.flat.specs.Records.{kindOf, ownWords, recordWords}
 
 pub name-end : (n : FixedString24) → length (n .bytes) ≡ 24 → 18 + length (nameWords n) ≡ 43
 name-end n h = omega (arith, h)
@@ -57,6 +62,40 @@ text-end tilt text.Present = refl
 pub label-end : (x : Label) → 111 + length (labelWords x) ≡ 114
 label-end label.Absent = refl
 label-end (label.At place long) = refl
+
+pub lines-long : (x : LineTable) → length (linesWords x) ≡ 2
+lines-long lines.Absent = refl
+lines-long (lines.Present count) = refl
+
+shape-long : (x : ShapeIndex) → length (shapeWords x) ≡ 2
+shape-long shape.Absent = refl
+shape-long (shape.Index i) = refl
+
+parts-long : (x : TextBoxPane) → length (partsWords x) ≡ 7
+parts-long x =
+    let e = length-append (textWords (x .«shadow_italic_tilt») (x .text)) (labelWords (x .label) ++ linesWords (x .«line_table»)) in
+    let f = length-append (labelWords (x .label)) (linesWords (x .«line_table»)) in
+    omega (arith, e, f, text-end (x .«shadow_italic_tilt») (x .text), label-end (x .label), lines-long (x .«line_table»))
+
+text-box-long : (x : TextBoxPane) → length (textBoxWords x) ≡ 54
+unfolding textBoxWords
+text-box-long x =
+    let e = length-append (fontWords x) (shadowWords x ++ partsWords x) in
+    omega (arith, e, font-end x, parts-long x)
+
+own-long : (k : Kind) (r : Record) → length (ownWords k r) ≤ 54
+unfolding ownWords pictureWords windowWords
+own-long Pan1 r = omega arith
+own-long Pic1 r = omega (arith, shape-long (r .picture .«shape_info_array_index»))
+own-long Txt1 r = omega (arith, text-box-long (r .«text_box»))
+own-long Wnd1 r = omega arith
+own-long Ali1 r = omega arith
+
+-- a record has at most RECORD_WORDS words
+pub record-long : (r : Record) → length (r .base .«pane_name» .bytes) ≡ 24 → length (r .base .«user_name» .bytes) ≡ 8 → length (recordWords r) ≤ 116
+unfolding recordWords
+record-long r h k =
+    omega (arith, length-append (baseWords (r .base)) (ownWords (r .kind) r), base-long (r .base) h k, own-long (r .kind) r)
 
 -- a number past those of the kinds before it is the last
 pub kind-last : (n : ℕ) → 4 ≤ n → Ali1 ≡ kindOf n

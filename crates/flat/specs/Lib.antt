@@ -3,3 +3,4 @@ pub mod Base
 pub mod Own
 pub mod Records
 pub mod Below
+pub mod Typed

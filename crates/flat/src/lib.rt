@@ -6,5 +6,6 @@ pub mod layout;
 mod pic1;
 pub mod records;
 pub mod txt1;
+pub mod typed;
 mod wnd1;
 mod words;

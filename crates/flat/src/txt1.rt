@@ -15,7 +15,8 @@ use ui2d::Binary32;
 ghost use Prim.Native.Nat.{_≤_};
 ghost use lib.ListN.{length};
 ghost use mathlib.Core.Path.{_≡_};
-ghost use Rattle.flat.specs.Words.{Stored};
+ghost use Rattle.flags.specs.Enums.{alignmentOf};
+ghost use Rattle.flat.specs.Words.{Stored, byteAt};
 ghost use Rattle.flat.specs.Own.{indicesWords, textFlagsWords, measureWords, fontWords, shadowWords, textWords, labelWords, linesWords, partsWords, textBoxWords, originAt, textFlagsAt, measureAt, textAt, labelAt, linesAt, textBoxAt};
 
 // ---- stored
@@ -200,6 +201,14 @@ fn origin_of(w: &[u64]) -> TextPosition
     }
 }
 
+fn alignment_of(w: &[u64]) -> TextAlignment
+    requires { ⌜ 116 ≤ length (now w) ⌝ }
+    ensures { λ r. ⌜ r ≡ alignmentOf (byteAt (now (w .entry)) 68) ⌝ }
+{
+    let number = (w[layout::TEXT_ALIGNMENT] % 256) as u8;
+    TextAlignment::decode(number)
+}
+
 fn flags_of(w: &[u64]) -> TextPaneFlags
     requires { ⌜ 116 ≤ length (now w) ⌝ }
     ensures { λ r. ⌜ r ≡ textFlagsAt (now (w .entry)) ⌝ }
@@ -277,8 +286,7 @@ pub fn text_box_of(w: &[u64]) -> TextBoxPane
     ensures { λ r. ⌜ r ≡ textBoxAt (now (w .entry)) ⌝ }
 {
     let text_origin = origin_of(w);
-    let number = (w[layout::TEXT_ALIGNMENT] % 256) as u8;
-    let text_alignment = TextAlignment::decode(number);
+    let text_alignment = alignment_of(w);
     let text_flags = flags_of(w);
     let italic_tilt = words::float_at(w, layout::ITALIC_TILT);
     let font_top_color = words::color_at(w, layout::FONT_TOP_COLOR);

@@ -59,7 +59,7 @@ module _ {w : List ℕ} where
   pub base-back : (b : Pane) → TypedPane b → Below 256 (b .«pane_name» .bytes) → Below 256 (b .«user_name» .bytes) → Holds w 1 (baseWords b) → baseAt w ≡ b
   unfolding baseWords baseAt
   base-back b t kn ku a =
-      let ts = transformWords b in
+      let ts = transformWords (b .translation) (b .rotation) (b .scale) (b .size) in
       let fx = flagExWords (b .alpha) (b .«flag_ex») in
       let (a₁, r₁) = split (paneFlagsWords (b .«pane_flags»)) (positionWords (b .position) ++ (fx ++ (nameWords (b .«pane_name») ++ (userWords (b .«user_name») ++ ts)))) 8 refl a in
       let (a₂, r₂) = split (positionWords (b .position)) (fx ++ (nameWords (b .«pane_name») ++ (userWords (b .«user_name») ++ ts))) 4 refl r₁ in

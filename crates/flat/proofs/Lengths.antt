@@ -42,7 +42,7 @@ after-name n u t h i j k = length-append n (k ∷ (u ++ t)) ∙ omega (arith, h,
 pub base-long : (b : Pane) → length (b .«pane_name» .bytes) ≡ 24 → length (b .«user_name» .bytes) ≡ 8 → length (baseWords b) ≡ 61
 unfolding baseWords
 base-long b h k =
-    omega (arith, after-name (b .«pane_name» .bytes) (b .«user_name» .bytes) (transformWords b) h k refl (b .«user_name» .count))
+    omega (arith, after-name (b .«pane_name» .bytes) (b .«user_name» .bytes) (transformWords (b .translation) (b .rotation) (b .scale) (b .size)) h k refl (b .«user_name» .count))
 
 -- ---- where the parts of a text box end
 

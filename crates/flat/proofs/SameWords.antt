@@ -8,7 +8,7 @@ use lib.ListN.{length, getD}
 use Rattle.core.specs.Bytes.{splice}
 use Rattle.strip.specs.declared.kind.Kind.{Kind}
 use Rattle.strip.specs.declared.kind.Kind.the-variants.{Pan1, Pic1, Txt1, Wnd1, Ali1}
-use Rattle.flat.specs.Words.{flagWord, flagAt, wordAt, byteAt, halfAt, bytesAt, quadrupleAt, colorWords, colorsAt, colorsWords, floatAt, vector2At}
+use Rattle.flat.specs.Words.{flagWord, flagAt, wordAt, byteAt, halfAt, bytesAt, quadrupleAt, colorWords, colorsAt, colorsWords, floatAt, vector2At, vector3At}
 use Rattle.flat.specs.Base.{paneFlagsWords, positionWords, flagExWords, nameWords, userWords, transformWords, baseWords, paneFlagsAt, positionAt, flagExAt, nameAt, userAt, baseAt}
 use Rattle.flat.specs.Own.{shapeWords, pictureWords, shapeAt, pictureAt, indicesWords, textFlagsWords, measureWords, fontWords, shadowWords, textWords, labelWords, linesWords, partsWords, textBoxWords, originAt, textFlagsAt, measureAt, textAt, labelAt, linesAt, textBoxAt, inflationWords, frameSizeWords, windowFlagsWords, contentWords, windowWords, sideAt, windowFlagsAt, contentAt, windowAt, alignmentWords, alignmentAt}
 use Rattle.flat.specs.Records.{kindOf, kindNumber, ownWords, recordWords, recordBy, recordOf}
@@ -40,7 +40,7 @@ module _ (w : List ℕ) where
   unfolding run
   flag-ex-same a s r = rw (mod-eq-of-lt (below a 0 (omega arith)), flag-word (getD w 14 0) (below s 0 (omega arith)), flag-word (getD w 15 0) (below s 1 (omega arith)), flag-word (getD w 16 0) (below s 2 (omega arith)), mod-eq-of-lt (below r 0 (omega arith)))
 
-  transform-same : Scanned w 52 10 4294967296 → transformWords (baseAt w) ≡ run w 52 10
+  transform-same : Scanned w 52 10 4294967296 → transformWords (vector3At w 52) (vector3At w 55) (vector2At w 58) (vector2At w 60) ≡ run w 52 10
   unfolding run baseAt
   transform-same s = rw (mod-eq-of-lt (below s 0 (omega arith)), mod-eq-of-lt (below s 1 (omega arith)), mod-eq-of-lt (below s 2 (omega arith)), mod-eq-of-lt (below s 3 (omega arith)), mod-eq-of-lt (below s 4 (omega arith)), mod-eq-of-lt (below s 5 (omega arith)), mod-eq-of-lt (below s 6 (omega arith)), mod-eq-of-lt (below s 7 (omega arith)), mod-eq-of-lt (below s 8 (omega arith)), mod-eq-of-lt (below s 9 (omega arith)))
 

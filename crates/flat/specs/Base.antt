@@ -8,6 +8,8 @@ use Rattle.flags.specs.Enums.{horizontalOf, horizontalNumber, verticalOf, verti
 use Rattle.flags.specs.declared.pane.PaneFlags.{PaneFlags}
 use Rattle.flags.specs.declared.pane.PaneFlagsEx.{PaneFlagsEx}
 use Rattle.flags.specs.declared.position.BflytPosition.{BflytPosition}
+use Rattle.ui2d.specs.declared.Vector2f.{Vector2f}
+use Rattle.ui2d.specs.declared.Vector3f.{Vector3f}
 use Rattle.pane.specs.declared.Pane.{Pane}
 use Rattle.flat.specs.Words.{flagWord, byteAt, flagAt, vector2At, vector3At, bytesAt}
 
@@ -53,19 +55,9 @@ abbrev pub userWords : FixedString8 → List ℕ
 userWords n = (n .count ∷ []) ++ n .bytes
 
 -- TRANSLATION, ROTATION, SCALE, SIZE: the bits of each float
-abbrev pub transformWords : Pane → List ℕ
-transformWords b =
-    b .translation .x .bits
-    ∷ b .translation .y .bits
-    ∷ b .translation .z .bits
-    ∷ b .rotation .x .bits
-    ∷ b .rotation .y .bits
-    ∷ b .rotation .z .bits
-    ∷ b .scale .x .bits
-    ∷ b .scale .y .bits
-    ∷ b .size .x .bits
-    ∷ b .size .y .bits
-    ∷ []
+abbrev pub transformWords : Vector3f → Vector3f → Vector2f → Vector2f → List ℕ
+transformWords t r c s =
+    t .x .bits ∷ t .y .bits ∷ t .z .bits ∷ r .x .bits ∷ r .y .bits ∷ r .z .bits ∷ c .x .bits ∷ c .y .bits ∷ s .x .bits ∷ s .y .bits ∷ []
 
 -- from PANE_FLAGS on
 unfoldable pub baseWords : Pane → List ℕ
@@ -74,7 +66,7 @@ baseWords b =
     ++ (positionWords (b .position)
     ++ (flagExWords (b .alpha) (b .«flag_ex»)
     ++ (nameWords (b .«pane_name»)
-    ++ (userWords (b .«user_name») ++ transformWords b))))
+    ++ (userWords (b .«user_name») ++ transformWords (b .translation) (b .rotation) (b .scale) (b .size)))))
 
 -- ---- and back
 

@@ -6,6 +6,10 @@ use Rattle.picture.specs.Picture.{blankPicture}
 use Rattle.text_box_read.specs.TextBox.{blankTextBox}
 use Rattle.window_read.specs.Window.{blankWindow}
 use Rattle.alignment.specs.Alignment.{blankAlignment}
+use Rattle.picture.specs.declared.PicturePane.{PicturePane}
+use Rattle.text_box_read.specs.declared.TextBoxPane.{TextBoxPane}
+use Rattle.window_read.specs.declared.WindowPane.{WindowPane}
+use Rattle.alignment.specs.declared.AlignmentPane.{AlignmentPane}
 use Rattle.strip.specs.declared.kind.Kind.{Kind}
 use Rattle.strip.specs.declared.kind.Kind.the-variants.{Pan1, Pic1, Txt1, Wnd1, Ali1}
 use Rattle.strip.specs.declared.record.Record.{Record}
@@ -35,47 +39,44 @@ ownWords Ali1 r = alignmentWords (r .alignment)
 unfoldable pub recordWords : Record → List ℕ
 recordWords r = (kindNumber (r .kind) ∷ []) ++ (baseWords (r .base) ++ ownWords (r .kind) r)
 
--- THE RECORD OF WORDS of a kind; what the other kinds have is blank
+-- what a kind has beyond the base is read for that kind, and blank for the others
+abbrev pub pictureBy : Kind → List ℕ → PicturePane
+pictureBy Pan1 w = blankPicture
+pictureBy Pic1 w = pictureAt w
+pictureBy Txt1 w = blankPicture
+pictureBy Wnd1 w = blankPicture
+pictureBy Ali1 w = blankPicture
+
+abbrev pub textBoxBy : Kind → List ℕ → TextBoxPane
+textBoxBy Pan1 w = blankTextBox
+textBoxBy Pic1 w = blankTextBox
+textBoxBy Txt1 w = textBoxAt w
+textBoxBy Wnd1 w = blankTextBox
+textBoxBy Ali1 w = blankTextBox
+
+abbrev pub windowBy : Kind → List ℕ → WindowPane
+windowBy Pan1 w = blankWindow
+windowBy Pic1 w = blankWindow
+windowBy Txt1 w = blankWindow
+windowBy Wnd1 w = windowAt w
+windowBy Ali1 w = blankWindow
+
+abbrev pub alignmentBy : Kind → List ℕ → AlignmentPane
+alignmentBy Pan1 w = blankAlignment
+alignmentBy Pic1 w = blankAlignment
+alignmentBy Txt1 w = blankAlignment
+alignmentBy Wnd1 w = blankAlignment
+alignmentBy Ali1 w = alignmentAt w
+
+-- THE RECORD OF WORDS of a kind
 unfoldable pub recordBy : Kind → List ℕ → Record
-recordBy Pan1 w = record {
-  kind = Pan1;
+recordBy k w = record {
+  kind = k;
   base = baseAt w;
-  picture = blankPicture;
-  «text_box» = blankTextBox;
-  window = blankWindow;
-  alignment = blankAlignment;
-}
-recordBy Pic1 w = record {
-  kind = Pic1;
-  base = baseAt w;
-  picture = pictureAt w;
-  «text_box» = blankTextBox;
-  window = blankWindow;
-  alignment = blankAlignment;
-}
-recordBy Txt1 w = record {
-  kind = Txt1;
-  base = baseAt w;
-  picture = blankPicture;
-  «text_box» = textBoxAt w;
-  window = blankWindow;
-  alignment = blankAlignment;
-}
-recordBy Wnd1 w = record {
-  kind = Wnd1;
-  base = baseAt w;
-  picture = blankPicture;
-  «text_box» = blankTextBox;
-  window = windowAt w;
-  alignment = blankAlignment;
-}
-recordBy Ali1 w = record {
-  kind = Ali1;
-  base = baseAt w;
-  picture = blankPicture;
-  «text_box» = blankTextBox;
-  window = blankWindow;
-  alignment = alignmentAt w;
+  picture = pictureBy k w;
+  «text_box» = textBoxBy k w;
+  window = windowBy k w;
+  alignment = alignmentBy k w;
 }
 
 abbrev pub recordOf : List ℕ → Record

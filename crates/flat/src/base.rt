@@ -9,6 +9,8 @@ use flags::position::BflytPosition;
 use flags::position::HorizontalPosition;
 use flags::position::VerticalPosition;
 use pane::Pane;
+use ui2d::Vector2f;
+use ui2d::Vector3f;
 ghost use Prim.Native.Nat.{_≤_};
 ghost use lib.ListN.{length};
 ghost use mathlib.Core.Path.{_≡_};
@@ -85,14 +87,10 @@ fn put_user(out: &mut [u64], n: FixedString8)
     words::store_bytes(out, layout::USER, &bytes);
 }
 
-fn put_transform(out: &mut [u64], b: Pane)
+fn put_transform(out: &mut [u64], t: Vector3f, r: Vector3f, c: Vector2f, s: Vector2f)
     requires { ⌜ 116 ≤ length (now out) ⌝ }
-    ensures { λ _. ⌜ Stored (now (out .entry)) 52 (transformWords b) (now (out .exit)) ⌝ }
+    ensures { λ _. ⌜ Stored (now (out .entry)) 52 (transformWords t r c s) (now (out .exit)) ⌝ }
 {
-    let t = b.translation;
-    let r = b.rotation;
-    let c = b.scale;
-    let s = b.size;
     let words = [
         t.x.bits as u64,
         t.y.bits as u64,
@@ -117,7 +115,7 @@ pub fn put_base(out: &mut [u64], b: Pane)
     put_flag_ex(out, b.alpha, b.flag_ex);
     put_name(out, b.pane_name);
     put_user(out, b.user_name);
-    put_transform(out, b);
+    put_transform(out, b.translation, b.rotation, b.scale, b.size);
 }
 
 // ---- read back

@@ -6,13 +6,17 @@ use crate::pic1;
 use crate::txt1;
 use crate::wnd1;
 use crate::words;
+use alignment::AlignmentPane;
+use picture::PicturePane;
 use strip::kind::Kind;
 use strip::record::Record;
+use text_box::TextBoxPane;
+use window::WindowPane;
 ghost use Prim.Native.Nat.{_≤_};
 ghost use lib.ListN.{length};
 ghost use mathlib.Core.Path.{_≡_};
 ghost use Rattle.flat.specs.Words.{Stored};
-ghost use Rattle.flat.specs.Records.{kindNumber, kindOf, ownWords, recordWords, recordBy};
+ghost use Rattle.flat.specs.Records.{kindNumber, kindOf, ownWords, recordWords, pictureBy, textBoxBy, windowBy, alignmentBy, recordBy};
 
 pub fn kind_number(kind: Kind) -> u64
     ensures { λ r. ⌜ r ≡ kindNumber kind ⌝ }
@@ -74,98 +78,55 @@ pub fn put_record(out: &mut [u64], r: Record)
 
 // ---- read back; what the other kinds have is blank
 
-fn pan1_of(w: &[u64]) -> Record
+fn picture_by(w: &[u64], kind: Kind) -> PicturePane
     requires { ⌜ 116 ≤ length (now w) ⌝ }
-    ensures { λ r. ⌜ r ≡ recordBy Kind.Pan1 (now (w .entry)) ⌝ }
+    ensures { λ r. ⌜ r ≡ pictureBy kind (now (w .entry)) ⌝ }
 {
-    let base = base::base_of(w);
-    let picture = picture::blank_picture();
-    let text_box = text_box::blank_text_box();
-    let window = window::blank_window();
-    let alignment = alignment::blank_alignment();
-    Record {
-        kind: Kind::Pan1,
-        base,
-        picture,
-        text_box,
-        window,
-        alignment,
+    match kind {
+        Kind::Pan1 => picture::blank_picture(),
+        Kind::Pic1 => pic1::picture_of(w),
+        Kind::Txt1 => picture::blank_picture(),
+        Kind::Wnd1 => picture::blank_picture(),
+        Kind::Ali1 => picture::blank_picture(),
     }
 }
 
-fn pic1_of(w: &[u64]) -> Record
+fn text_box_by(w: &[u64], kind: Kind) -> TextBoxPane
     requires { ⌜ 116 ≤ length (now w) ⌝ }
-    ensures { λ r. ⌜ r ≡ recordBy Kind.Pic1 (now (w .entry)) ⌝ }
+    ensures { λ r. ⌜ r ≡ textBoxBy kind (now (w .entry)) ⌝ }
 {
-    let base = base::base_of(w);
-    let picture = pic1::picture_of(w);
-    let text_box = text_box::blank_text_box();
-    let window = window::blank_window();
-    let alignment = alignment::blank_alignment();
-    Record {
-        kind: Kind::Pic1,
-        base,
-        picture,
-        text_box,
-        window,
-        alignment,
+    match kind {
+        Kind::Pan1 => text_box::blank_text_box(),
+        Kind::Pic1 => text_box::blank_text_box(),
+        Kind::Txt1 => txt1::text_box_of(w),
+        Kind::Wnd1 => text_box::blank_text_box(),
+        Kind::Ali1 => text_box::blank_text_box(),
     }
 }
 
-fn txt1_of(w: &[u64]) -> Record
+fn window_by(w: &[u64], kind: Kind) -> WindowPane
     requires { ⌜ 116 ≤ length (now w) ⌝ }
-    ensures { λ r. ⌜ r ≡ recordBy Kind.Txt1 (now (w .entry)) ⌝ }
+    ensures { λ r. ⌜ r ≡ windowBy kind (now (w .entry)) ⌝ }
 {
-    let base = base::base_of(w);
-    let picture = picture::blank_picture();
-    let text_box = txt1::text_box_of(w);
-    let window = window::blank_window();
-    let alignment = alignment::blank_alignment();
-    Record {
-        kind: Kind::Txt1,
-        base,
-        picture,
-        text_box,
-        window,
-        alignment,
+    match kind {
+        Kind::Pan1 => window::blank_window(),
+        Kind::Pic1 => window::blank_window(),
+        Kind::Txt1 => window::blank_window(),
+        Kind::Wnd1 => wnd1::window_of(w),
+        Kind::Ali1 => window::blank_window(),
     }
 }
 
-fn wnd1_of(w: &[u64]) -> Record
+fn alignment_by(w: &[u64], kind: Kind) -> AlignmentPane
     requires { ⌜ 116 ≤ length (now w) ⌝ }
-    ensures { λ r. ⌜ r ≡ recordBy Kind.Wnd1 (now (w .entry)) ⌝ }
+    ensures { λ r. ⌜ r ≡ alignmentBy kind (now (w .entry)) ⌝ }
 {
-    let base = base::base_of(w);
-    let picture = picture::blank_picture();
-    let text_box = text_box::blank_text_box();
-    let window = wnd1::window_of(w);
-    let alignment = alignment::blank_alignment();
-    Record {
-        kind: Kind::Wnd1,
-        base,
-        picture,
-        text_box,
-        window,
-        alignment,
-    }
-}
-
-fn ali1_of(w: &[u64]) -> Record
-    requires { ⌜ 116 ≤ length (now w) ⌝ }
-    ensures { λ r. ⌜ r ≡ recordBy Kind.Ali1 (now (w .entry)) ⌝ }
-{
-    let base = base::base_of(w);
-    let picture = picture::blank_picture();
-    let text_box = text_box::blank_text_box();
-    let window = window::blank_window();
-    let alignment = ali1::alignment_of(w);
-    Record {
-        kind: Kind::Ali1,
-        base,
-        picture,
-        text_box,
-        window,
-        alignment,
+    match kind {
+        Kind::Pan1 => alignment::blank_alignment(),
+        Kind::Pic1 => alignment::blank_alignment(),
+        Kind::Txt1 => alignment::blank_alignment(),
+        Kind::Wnd1 => alignment::blank_alignment(),
+        Kind::Ali1 => ali1::alignment_of(w),
     }
 }
 
@@ -173,11 +134,17 @@ pub fn record_of(w: &[u64], kind: Kind) -> Record
     requires { ⌜ 116 ≤ length (now w) ⌝ }
     ensures { λ r. ⌜ r ≡ recordBy kind (now (w .entry)) ⌝ }
 {
-    match kind {
-        Kind::Pan1 => pan1_of(w),
-        Kind::Pic1 => pic1_of(w),
-        Kind::Txt1 => txt1_of(w),
-        Kind::Wnd1 => wnd1_of(w),
-        Kind::Ali1 => ali1_of(w),
+    let base = base::base_of(w);
+    let picture = picture_by(w, kind);
+    let text_box = text_box_by(w, kind);
+    let window = window_by(w, kind);
+    let alignment = alignment_by(w, kind);
+    Record {
+        kind,
+        base,
+        picture,
+        text_box,
+        window,
+        alignment,
     }
 }

@@ -1,8 +1,11 @@
 // What the types say of a record: the laws on words coming back ask it. The functions do nothing; their contracts do.
 use core::text::FixedString8;
 use core::text::FixedString24;
+use pane::Pane;
 use strip::record::Record;
 use text_box::LineTable;
+use text_box::TextBoxPane;
+use window::WindowPane;
 ghost use Prim.Native.Nat.{_<_};
 ghost use Rattle.strip.specs.Typed.{Below};
 ghost use Rattle.flat.specs.Typed.{TypedLines, TypedWords};
@@ -42,23 +45,37 @@ fn typed_lines(x: LineTable)
     }
 }
 
+fn typed_names(b: Pane)
+    ensures { λ _. ⌜ Below 256 (b .«pane_name» .bytes) × Below 256 (b .«user_name» .bytes) ⌝ }
+{
+    typed_name(b.pane_name);
+    typed_user(b.user_name);
+}
+
+fn typed_table(x: TextBoxPane)
+    ensures { λ _. ⌜ TypedLines (x .«line_table») ⌝ }
+{
+    let table = x.line_table;
+    typed_lines(table);
+}
+
+fn typed_counts(x: WindowPane)
+    ensures { λ _. ⌜ (x .«frame_count» < 256) × (x .content .«quad_count» < 256) ⌝ }
+{
+    typed_byte(x.frame_count);
+    typed_byte(x.content.quad_count);
+}
+
 // Every record is one that TypedWords describes.
 pub fn typed(r: Record)
     ensures { λ _. ⌜ TypedWords r ⌝ }
 {
-    let base = r.base;
-    let text_box = r.text_box;
-    let window = r.window;
-    let content = window.content;
-    let table = text_box.line_table;
-    pane::typed_pane(base);
+    pane::typed_pane(r.base);
     picture::typed_picture(r.picture);
-    text_box::typed_text_box(text_box);
-    window::typed_window(window);
+    text_box::typed_text_box(r.text_box);
+    window::typed_window(r.window);
     alignment::typed_alignment(r.alignment);
-    typed_name(base.pane_name);
-    typed_user(base.user_name);
-    typed_lines(table);
-    typed_byte(window.frame_count);
-    typed_byte(content.quad_count);
+    typed_names(r.base);
+    typed_table(r.text_box);
+    typed_counts(r.window);
 }

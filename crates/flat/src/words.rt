@@ -6,7 +6,7 @@ use ui2d::Vector3f;
 ghost use mathlib.Core.Path.{_≡_};
 ghost use Prim.Native.Nat.{_+_, _≤_};
 ghost use lib.ListN.{length};
-ghost use Rattle.flat.specs.Words.{Stored, colorWords, colorsWords, byteAt, halfAt, wordAt, flagAt, floatAt, vector2At, vector3At, quadrupleAt, colorsAt, bytesAt};
+ghost use Rattle.flat.specs.Words.{Stored, colorWords, colorsWords, byteAt, floatAt, vector2At, vector3At, quadrupleAt, colorsAt, bytesAt};
 
 // ---- stored
 
@@ -63,27 +63,6 @@ pub fn byte_at(w: &[u64], at: usize) -> u8
     ensures { λ r. ⌜ r ≡ byteAt (now (w .entry)) at ⌝ }
 {
     (w[at] % 256) as u8
-}
-
-pub fn half_at(w: &[u64], at: usize) -> u16
-    requires { ⌜ at + 1 ≤ length (now w) ⌝ }
-    ensures { λ r. ⌜ r ≡ halfAt (now (w .entry)) at ⌝ }
-{
-    (w[at] % 65_536) as u16
-}
-
-pub fn word_at(w: &[u64], at: usize) -> u32
-    requires { ⌜ at + 1 ≤ length (now w) ⌝ }
-    ensures { λ r. ⌜ r ≡ wordAt (now (w .entry)) at ⌝ }
-{
-    (w[at] % 4_294_967_296) as u32
-}
-
-pub fn flag_at(w: &[u64], at: usize) -> bool
-    requires { ⌜ at + 1 ≤ length (now w) ⌝ }
-    ensures { λ r. ⌜ r ≡ flagAt (now (w .entry)) at ⌝ }
-{
-    w[at] == 1
 }
 
 pub fn float_at(w: &[u64], at: usize) -> Binary32

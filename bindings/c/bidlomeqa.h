@@ -3,8 +3,8 @@
  *
  * A slice crosses as a pointer and a count of elements. The pointer is never NULL and is aligned for its element, also where the count is 0. Slices
  * that are written (without const) overlap no other. A call asks for nothing more: any numbers are answered, and nothing outside the slices is
- * touched. Each call returns one of the numbers END to PART below and puts ANSWER_WORDS words into `answer`; the comment of the number says what they
- * are. A record is RECORD_WORDS words. A refused call changes nothing but `answer`.
+ * touched. Each call returns one of the numbers END to PART below and, but for SHORT_ANSWER, puts ANSWER_WORDS words into `answer`; the comment of the
+ * number says what they are. A record is RECORD_WORDS words. A refused call changes nothing but `answer`.
  *
  * A read lends four lists: quads (8 floats a quad), units (UTF-16), lines (offset and width a line, 2 floats) and frames (material and flip a frame),
  * of at least QUADS_NEED, UNITS_NEED, LINES_NEED and FRAMES_NEED numbers. Floats cross as their 32 bits. A write takes its counts from the lengths

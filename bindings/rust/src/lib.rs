@@ -1,7 +1,8 @@
 //! Safe calls of the proved reader and writer of BFLYT panes: pan1, pic1, txt1, wnd1 and ali1.
 //!
 //! [`Buffer`] holds the lists and the record that the calls lend to the library: one buffer reads a whole page and allocates nothing for a pane.
-//! [`View`] is a pane in the buffer; [`View::record`] makes a [`Record`] with lists of its own. [`read_strip`] and [`write_strip`] do a whole page.
+//! [`View`] is a pane in the buffer; [`View::record`] makes a [`Record`] with lists of its own. [`read_page`] and [`write_page`] do a whole page, its
+//! sections of other kinds included; [`read_strip`] and [`write_strip`] the panes alone.
 //!
 //! ```
 //! let strip = bidlomeqa::write_strip(&[bidlomeqa::Record::default()]).unwrap();
@@ -24,5 +25,5 @@ pub use buffer::{Body, Buffer, Caption, Section};
 pub use flags::*;
 pub use record::*;
 pub use refusal::Refusal;
-pub use strip::{read_strip, write_strip, Refused};
+pub use strip::{read_page, read_strip, write_page, write_strip, Piece, Refused};
 pub use view::View;

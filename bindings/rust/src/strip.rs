@@ -19,39 +19,95 @@ impl std::fmt::Display for Refused {
 
 impl std::error::Error for Refused {}
 
-/// Reads every pane of a strip; sections of other kinds are passed.
-pub fn read_strip(strip: &[u8]) -> Result<Vec<Record>, Refused> {
+/// A section of a page: a pane, or one of another kind, header and all, as it stands.
+#[derive(Debug, Clone, PartialEq)]
+pub enum Piece {
+    Pane(Box<Record>),
+    Other(Vec<u8>),
+}
+
+/// Reads every section of a page, so that [`write_page`] writes back those of other kinds too.
+pub fn read_page(strip: &[u8]) -> Result<Vec<Piece>, Refused> {
     let mut buffer = Buffer::new();
-    let mut records = Vec::new();
+    let mut pieces = Vec::new();
     let mut place = 0;
     loop {
-        match buffer.read_section(strip, place) {
-            Ok(Section::End) => return Ok(records),
-            Ok(Section::Passed { next }) => place = next,
-            Ok(Section::Pane { view, next, .. }) => {
-                records.push(view.record());
-                place = next;
-            }
+        let (piece, next) = match buffer.read_section(strip, place) {
+            Ok(Section::End) => return Ok(pieces),
+            Ok(Section::Passed { next }) => (Piece::Other(strip[place..next].to_vec()), next),
+            Ok(Section::Pane { view, next, .. }) => (Piece::Pane(Box::new(view.record())), next),
             Err(refusal) => return Err(Refused { place, refusal }),
+        };
+        pieces.push(piece);
+        place = next;
+    }
+}
+
+/// Writes the sections of a page, one after another.
+pub fn write_page(pieces: &[Piece]) -> Result<Vec<u8>, Refused> {
+    let mut out = Output::new(pieces.len());
+    for piece in pieces {
+        match piece {
+            Piece::Pane(record) => out.write(record)?,
+            Piece::Other(section) => out.copy(section),
         }
     }
+    Ok(out.finish())
+}
+
+/// Reads the panes of a strip. Sections of other kinds are passed and are not among the records: to write a page back, see [`read_page`].
+pub fn read_strip(strip: &[u8]) -> Result<Vec<Record>, Refused> {
+    let pieces = read_page(strip)?;
+    Ok(pieces.into_iter().filter_map(|piece| if let Piece::Pane(record) = piece { Some(*record) } else { None }).collect())
 }
 
 /// Writes the records, one section after another.
 pub fn write_strip(records: &[Record]) -> Result<Vec<u8>, Refused> {
-    let mut buffer = Buffer::new();
-    let mut out = vec![0; (256 * records.len()).min(16_777_216)];
-    let mut place = 0;
+    let mut out = Output::new(records.len());
     for record in records {
-        place = match buffer.write_section(record, &mut out, place) {
-            Err(Refusal::OutputEnd { end, .. }) if end <= 16_777_216 => {
-                out.resize((2 * end as usize).min(16_777_216), 0);
-                buffer.write_section(record, &mut out, place)
+        out.write(record)?;
+    }
+    Ok(out.finish())
+}
+
+const MOST: usize = 16_777_216;
+
+// An output that grows up to the longest that a call takes.
+struct Output {
+    buffer: Buffer,
+    out: Vec<u8>,
+    place: usize,
+}
+
+impl Output {
+    fn new(sections: usize) -> Self {
+        Self { buffer: Buffer::new(), out: vec![0; (256 * sections).min(MOST)], place: 0 }
+    }
+
+    fn write(&mut self, record: &Record) -> Result<(), Refused> {
+        let place = self.place;
+        let end = match self.buffer.write_section(record, &mut self.out, place) {
+            Err(Refusal::OutputEnd { end, .. }) if self.out.len() < MOST => {
+                self.out.resize((2 * end as usize).min(MOST), 0);
+                self.buffer.write_section(record, &mut self.out, place)
             }
             answer => answer,
-        }
-        .map_err(|refusal| Refused { place, refusal })?;
+        };
+        self.place = end.map_err(|refusal| Refused { place, refusal })?;
+        Ok(())
     }
-    out.truncate(place);
-    Ok(out)
+
+    fn copy(&mut self, section: &[u8]) {
+        let end = self.place + section.len();
+        if self.out.len() < end {
+            self.out.resize(end, 0);
+        }
+        self.out[self.place..end].copy_from_slice(section);
+        self.place = end;
+    }
+
+    fn finish(mut self) -> Vec<u8> {
+        self.out.truncate(self.place);
+        self.out
+    }
 }

@@ -189,3 +189,19 @@ fn a_body_is_read_by_its_kind() {
     let body = buffer.read_body(Kind::Pic1, &out, 9).unwrap();
     assert_eq!((body.end, body.view.record()), (end, picture()));
 }
+
+#[test]
+fn a_page_comes_back_with_its_other_sections() {
+    let other = b"usd1\x0c\0\0\0abcd".to_vec();
+    let pieces = vec![
+        Piece::Other(other.clone()),
+        Piece::Pane(Box::default()),
+        Piece::Other(b"pas1\x08\0\0\0".to_vec()),
+    ];
+    let page = write_page(&pieces).unwrap();
+    assert_eq!(page.len(), 12 + 84 + 8);
+    assert_eq!(page[..12], other);
+    assert_eq!(read_page(&page).unwrap(), pieces);
+    assert_eq!(write_page(&read_page(&page).unwrap()).unwrap(), page);
+    assert_eq!(read_strip(&page).unwrap(), [Record::default()]);
+}

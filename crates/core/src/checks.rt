@@ -1,4 +1,4 @@
-// The checks that calls share, each a step of a run, and what a run that wrote answers.
+// The checks that calls share, each a step of a run, and what calls answer.
 use crate::cursor;
 use crate::cursor::Cursor;
 use crate::cursor::Place;

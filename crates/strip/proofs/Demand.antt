@@ -222,7 +222,9 @@ module _ (order : ByteOrder) where
 -- DEMAND 3, the whole of it, for all five kinds. Its parts, and the demand's sentences:
 -- `ws`, `vs`: "any list of section writes of pane records, of any kinds in any order, refused ones included"; `o`, `u`: "one output of any length and bytes".
 -- `run`: "the first is made at place 0; after an accepted write the next is made at the end that this one answered, after a refused one at the
---   same place again; each call gets the output as the one before left it". `writeAnswer` and `writeOutput` in it are the contract of `write_section`.
+--   same place again; each call gets the output as the one before left it, and nobody else writes there meanwhile": `step` hands the output on.
+--   "Then each is accepted, laid out or refused as document 01 defines it": `writeAnswer` and `writeOutput` in it are the contract of `write_section`.
+-- `kept`: "the records that the accepted ones were handed, each with its lists and label, in their order"; `strip`: the output up to the last end.
 -- the first part: "for every two such lists of writes, the kept lists are equal exactly when the two strips hold the same bytes".
 -- the second and the third: "either strip, read section by section from place 0, each read at the next place that the one before gave, gives its
 --   kept list, and then its end. No read is refused, and the next places are the ends that the accepted writes answered".

@@ -1,4 +1,4 @@
--- The 84 fixed bytes of a text box after the base, as they are written in three chunks.
+-- The 84 fixed bytes of a text box after the base, as they are written in four chunks.
 use Prim.Native.Nat.{ℕ}
 use mathlib.Core.List.{List, _++_}
 use Rattle.core.specs.Bytes.{bytesOf}

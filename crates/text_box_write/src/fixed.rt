@@ -1,4 +1,4 @@
-// The 84 fixed bytes of a text box after the base, written in three chunks.
+// The 84 fixed bytes of a text box after the base, written in four chunks.
 use core::cursor::ByteOrder;
 use core::writer;
 use flags::text::FontMeasureKind;

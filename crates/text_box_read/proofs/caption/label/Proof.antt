@@ -1,4 +1,4 @@
-use Rattle.text_box_read.proofs.Captions.{inside, beyond, outside, label-got, label-none}
+use Rattle.text_box_read.proofs.Captions.{inside, beyond, outside, label-got, label-none, label-at, none-at, absent-at}
 use mathlib.Core.Logic.{⊎-elim}
 use borrow.Author.Needs.{needs}
 use Rattle.text_box_read.proofs.caption.label.Statement.{statement}
@@ -35,7 +35,11 @@ part-result-end-2 : tie.Need-part-result-end-2
 part-result-end-2 c = search needs
 
 returns : tie.Need-returns
-returns c = let s = c .before .before .before .before .before .before .args .«data» .now in label-got s _ _ _ (c .before .before .before .before .l .given .1) (inside s _ _ (c .before .before .if1 .taken) (c .before .if2 .taken))
+returns c =
+    let x = c .before .before .before .before .before .before .args .«data» in
+    let at = c .before .before .before .before .l .given .1 in
+    let h = inside (x .now) _ _ (c .before .before .if1 .taken) (c .before .if2 .taken) in
+    (label-got (x .now) _ _ _ at h, label-at (x .now) _ _ _ (x .ptr) at h)
 
 sub-result-3 : tie.Need-sub-result-3
 sub-result-3 c = search needs
@@ -47,10 +51,16 @@ part-result-end-3 : tie.Need-part-result-end-3
 part-result-end-3 c = search needs
 
 returns-2 : tie.Need-returns-2
-returns-2 c = search needs
+returns-2 c =
+    let a = c .before .before .before .args in
+    (search needs, absent-at (a .«data» .now) (a .l) (a .«data» .ptr) (search needs))
 
 returns-3 : tie.Need-returns-3
-returns-3 c = let s = c .before .before .before .before .before .args .«data» .now in ⊎-elim (λ w. label-none s _ _ _ (c .before .before .before .l .given .1) (beyond s _ _ (w .0 .taken) (w .1 .left))) (λ w. label-none s _ _ _ (c .before .before .before .l .given .1) (outside s _ _ (w .left))) (c .before .if1 .came)
+returns-3 c =
+    let x = c .before .before .before .before .before .args .«data» in
+    let at = c .before .before .before .l .given .1 in
+    let h = ⊎-elim (λ w. beyond (x .now) _ _ (w .0 .taken) (w .1 .left)) (λ w. outside (x .now) _ _ (w .left)) (c .before .if1 .came) in
+    (label-none (x .now) _ _ _ at h, none-at (x .now) _ _ _ (x .ptr) at h)
 
 pub label-spec : {M : Type 1} → statement M
 label-spec =

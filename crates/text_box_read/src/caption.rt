@@ -21,7 +21,7 @@ pub fn label<'a>(data: &'a [u8], l: Label) -> &'a [u8]
     }
 }
 
-// The label if there is one, otherwise the lent caption.
+// The label if there is one, otherwise the lent caption; a part of whichever of the two.
 pub fn caption<'a>(strip: &'a [u8], l: Label, lent: &'a [u8]) -> &'a [u8]
     ensures { λ r. ⌜ now r ≡ captionOf (now (strip .entry)) l (now (lent .entry)) ⌝ }
     ensures { λ r. ⌜ r .ptr ≡ captionStart (now (strip .entry)) l (strip .entry .ptr) (lent .entry .ptr) ⌝ }

@@ -24,7 +24,7 @@ returns c = rw (c .enum-told .given .1)
 
 returns-2 : tie.Need-returns-2
 unfolding labelChecked
-returns-2 c = rw (c .stop-if .ensures, c .before .well-formed .ensures, c .before .before .label2 .ensures, c .before .before .before .before .label .given .1)
+returns-2 c = rw (c .stop-if .ensures, c .before .well-formed .ensures, c .before .before .label2 .ensures .0, c .before .before .before .before .label .given .1)
 
 pub label-checked-spec : {M : Type 1} → statement M
 label-checked-spec =

@@ -102,9 +102,4 @@ impl Tally {
         println!("{} records came back as they were written, or strips ended where they must", self.claims);
         println!("{} cases in {:.0} s, {} differences", self.cases, self.seconds(), self.differences);
     }
-
-    /// Whether a case of the call had this outcome.
-    pub fn met(&self, call: &str, code: u64, number: u64) -> bool {
-        self.counts.keys().any(|(c, k, n)| c.call == call && *k == code && *n == number)
-    }
 }

@@ -1,4 +1,5 @@
 //! A pane where a read left it: nothing is copied until it is asked for.
+use crate::flags::WindowFlags;
 use crate::layout::*;
 use crate::record::*;
 use crate::words::Words;
@@ -64,14 +65,49 @@ impl<'a> View<'a> {
         self.present(LABEL_PRESENT).then(|| &self.strip[place..place + self.words[LABEL_LENGTH] as usize])
     }
 
+    // What a kind that has it keeps in words from there on.
+    fn part<T: Words>(&self, pairs: &[(Kind, usize)]) -> Option<T> {
+        let kind = self.kind();
+        pairs.iter().find(|(k, _)| *k == kind).map(|(_, word)| T::take(&self.words[*word..]))
+    }
+
+    /// The colours of the corners of a picture, or of a window's content.
+    pub fn vertex_colors(&self) -> Option<[Color4u8; 4]> {
+        self.part(&[(Kind::Pic1, PICTURE_COLORS), (Kind::Wnd1, CONTENT_COLORS)])
+    }
+
+    /// The material of a picture, or of a window's content.
+    pub fn material_index(&self) -> Option<u16> {
+        self.part(&[(Kind::Pic1, PICTURE_MATERIAL), (Kind::Wnd1, CONTENT_MATERIAL)])
+    }
+
+    /// The shape index of a picture that has one.
+    pub fn shape_info_array_index(&self) -> Option<u32> {
+        self.part(&[(Kind::Pic1, SHAPE_INDEX)]).filter(|_| self.words[SHAPE_PRESENT] != 0)
+    }
+
+    /// How far a window reaches beyond its content.
+    pub fn inflation(&self) -> Option<Sides> {
+        self.part(&[(Kind::Wnd1, INFLATION)])
+    }
+
+    /// How wide a window's frame is.
+    pub fn frame_size(&self) -> Option<Sides> {
+        self.part(&[(Kind::Wnd1, FRAME_SIZE)])
+    }
+
+    pub fn window_flags(&self) -> Option<WindowFlags> {
+        self.part(&[(Kind::Wnd1, WINDOW_FLAGS)])
+    }
+
     /// The fixed fields of a text box.
     pub fn text_box(&self) -> Option<TextBoxFixed> {
-        (self.kind() == Kind::Txt1).then(|| TextBoxFixed::take(&self.words[OWN..]))
+        self.part(&[(Kind::Txt1, OWN)])
     }
 
     /// The fields of an alignment pane.
     pub fn alignment(&self) -> Option<AlignmentPane> {
-        (self.kind() == Kind::Ali1).then(|| AlignmentPane::take(&self.words[OWN..]))
+        self.part(&[(Kind::Ali1, OWN)])
     }
 
     /// The pane with lists of its own.

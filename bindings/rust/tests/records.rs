@@ -191,6 +191,28 @@ fn a_body_is_read_by_its_kind() {
 }
 
 #[test]
+fn a_view_has_the_fields_of_its_record() {
+    let strip = write_strip(&[picture(), window(), alignment()]).unwrap();
+    let mut buffer = Buffer::new();
+    let Ok(Section::Pane { view, next, .. }) = buffer.read_section(&strip, 0) else { panic!() };
+    let Own::Pic1(own) = picture().own else { unreachable!() };
+    assert_eq!(view.vertex_colors(), Some(own.vertex_colors));
+    assert_eq!(view.material_index(), Some(own.material_index));
+    assert_eq!(view.shape_info_array_index(), own.shape_info_array_index);
+    assert_eq!((view.inflation(), view.frame_size(), view.window_flags()), (None, None, None));
+    let Ok(Section::Pane { view, next, .. }) = buffer.read_section(&strip, next) else { panic!() };
+    let Own::Wnd1(own) = window().own else { unreachable!() };
+    assert_eq!(view.vertex_colors(), Some(own.content.vertex_colors));
+    assert_eq!(view.material_index(), Some(own.content.material_index));
+    assert_eq!(view.inflation(), Some(own.inflation));
+    assert_eq!(view.frame_size(), Some(own.frame_size));
+    assert_eq!(view.window_flags(), Some(own.flag));
+    assert_eq!(view.shape_info_array_index(), None);
+    let Ok(Section::Pane { view, .. }) = buffer.read_section(&strip, next) else { panic!() };
+    assert_eq!((view.vertex_colors(), view.material_index()), (None, None));
+}
+
+#[test]
 fn a_page_comes_back_with_its_other_sections() {
     let other = b"usd1\x0c\0\0\0abcd".to_vec();
     let pieces = vec![

@@ -61,12 +61,18 @@ pub fn flags(c: &mut Comparison, r: &mut Random) {
     }
 }
 
-/// Each class of floats in each word of four bytes after the names.
+// Where the floats of the line table stand in the template of a text box, after its count of one byte.
+fn line_floats(kind: u64) -> std::ops::Range<usize> {
+    if kind == TXT1 { 169..185 } else { 0..0 }
+}
+
+/// Each class of floats in each word of four bytes after the names, and in each word of a line table.
 pub fn floats(c: &mut Comparison, r: &mut Random) {
     for kind in KINDS {
         for place in 8..12 {
             let whole = bodies::template(r, kind, place);
-            for at in (place + 36..whole.len().saturating_sub(3)).step_by(4) {
+            let words = (place + 36..whole.len().saturating_sub(3)).step_by(4);
+            for at in words.chain(line_floats(kind).step_by(4).map(|at| place + at)) {
                 for bits in FLOATS {
                     let mut data = whole.clone();
                     put32(&mut data, at, bits);

@@ -56,21 +56,28 @@ fn strip(c: &mut Comparison, writes: &[Whole], length: usize) {
     c.claim("ends", 5, end.0 == END, || format!("{at} of {}", strip.len()));
 }
 
-/// One list of writes of all kinds, refused ones among them, into outputs of every length.
+// With few numbers in its lists.
+fn short(mut w: Whole) -> Whole {
+    w.quads.truncate(8);
+    w.frames.truncate(4);
+    w.lines.truncate(2);
+    w.units.truncate(2);
+    w.words[TEXT_LENGTH] = 2 * w.units.len() as u64;
+    w
+}
+
+/// Lists of writes into outputs of every length: one of all kinds, one with refused ones among them, and random ones.
 pub fn every_length(c: &mut Comparison, r: &mut Random) {
-    for round in 0..2 {
-        let mut writes: Vec<Whole> = (0..8).map(|i| records::good(r, i % 5)).collect();
-        for w in &mut writes {
-            w.quads.truncate(8);
-            w.frames.truncate(4);
-            w.lines.truncate(2);
-            w.units.truncate(2);
-            w.words[TEXT_LENGTH] = 2 * w.units.len() as u64;
-        }
-        if round == 1 {
-            records::spoil(r, &mut writes[3]);
-            writes[5].words[RESERVE0] = 77;
-        }
+    let kinds: Vec<Whole> = (0..8).map(|i| short(records::good(r, i % 5))).collect();
+    let mut refused = kinds.clone();
+    records::spoil(r, &mut refused[3]);
+    refused[5].words[RESERVE0] = 77;
+    let mut lists = vec![kinds, refused];
+    for _ in 0..16 {
+        let count = r.below(9);
+        lists.push((0..count).map(|_| short(records::any(r))).collect());
+    }
+    for writes in lists {
         for length in 0..1400 {
             strip(c, &writes, length);
         }

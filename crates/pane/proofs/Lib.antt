@@ -1,3 +1,4 @@
+pub mod Names
 pub mod Run
 pub mod Cleared
 pub mod Calls

@@ -16,15 +16,16 @@ use Rattle.core.specs.declared.checks.Parsed.the-variants as Parseds
 use Rattle.text_box_read.specs.Caption.{within, labelOf, captionOf}
 use Rattle.text_box_read.specs.declared.Label.{Label}
 use Rattle.text_box_read.specs.declared.Label.the-variants as label
-use Rattle.strip.specs.Kinds.{kindOf}
-use Rattle.strip.specs.Whole.{Lists, blankRecord}
-use Rattle.strip.specs.Read.{readStart, headerTaken, bodyRead, refusedWith, endedWith, passedWith, finished, readBody, byKind, orRefused, readAt, readSection}
-use Rattle.strip.specs.declared.kind.Kind.{Kind}
-use Rattle.strip.specs.declared.kind.Kind.the-variants.{Pan1, Pic1, Txt1, Wnd1, Ali1}
-use Rattle.strip.specs.declared.kind.KindFound.{KindFound}
-use Rattle.strip.specs.declared.kind.KindFound.the-variants.{Is, Other}
-use Rattle.strip.specs.declared.record.Record.{Record}
-use Rattle.strip.specs.declared.read.SectionRead.{SectionRead}
+use Rattle.strip_kinds.specs.Kinds.{kindOf}
+use Rattle.strip_kinds.specs.Whole.{Lists, blankRecord}
+use Rattle.strip_kinds.specs.Body.{bodyRead}
+use Rattle.strip_read.specs.Read.{readStart, headerTaken, refusedWith, endedWith, passedWith, finished, readBody, byKind, orRefused, readAt, readSection}
+use Rattle.strip_kinds.specs.declared.kind.Kind.{Kind}
+use Rattle.strip_kinds.specs.declared.kind.Kind.the-variants.{Pan1, Pic1, Txt1, Wnd1, Ali1}
+use Rattle.strip_kinds.specs.declared.kind.KindFound.{KindFound}
+use Rattle.strip_kinds.specs.declared.kind.KindFound.the-variants.{Is, Other}
+use Rattle.strip_kinds.specs.declared.record.Record.{Record}
+use Rattle.strip_read.specs.declared.read.SectionRead.{SectionRead}
 use Rattle.flat.specs.Records.{recordWords, recordOf}
 use Rattle.flat.specs.Typed.{TypedWords, OthersBlank}
 use Rattle.flat.proofs.Again.{handed-back}

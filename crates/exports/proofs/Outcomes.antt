@@ -13,15 +13,15 @@ use Rattle.core.specs.declared.checks.Written.{Written}
 use Rattle.text_box_read.specs.Caption.{within}
 use Rattle.text_box_read.specs.declared.Label.{Label}
 use Rattle.text_box_read.specs.declared.Label.the-variants as label
-use Rattle.strip.specs.Whole.{Lists, lists, Whole, whole}
-use Rattle.strip.specs.Read.{readSection, listsAfter}
-use Rattle.strip.specs.Write.{writeAnswer, writeOutput}
-use Rattle.strip.specs.declared.kind.Kind.{Kind}
-use Rattle.strip.specs.declared.kind.Kind.the-variants.{Pan1, Pic1, Txt1, Wnd1, Ali1}
-use Rattle.strip.specs.declared.record.Record.{Record}
-use Rattle.strip.specs.declared.read.BodyRead.{BodyRead}
-use Rattle.strip.specs.declared.read.Section.{Section}
-use Rattle.strip.specs.declared.read.SectionRead.{SectionRead}
+use Rattle.strip_kinds.specs.Whole.{Lists, lists, Whole, whole}
+use Rattle.strip_read.specs.Read.{readSection, listsAfter}
+use Rattle.strip_write.specs.Write.{writeAnswer, writeOutput}
+use Rattle.strip_kinds.specs.declared.kind.Kind.{Kind}
+use Rattle.strip_kinds.specs.declared.kind.Kind.the-variants.{Pan1, Pic1, Txt1, Wnd1, Ali1}
+use Rattle.strip_kinds.specs.declared.record.Record.{Record}
+use Rattle.strip_kinds.specs.declared.body.BodyRead.{BodyRead}
+use Rattle.strip_read.specs.declared.read.Section.{Section}
+use Rattle.strip_read.specs.declared.read.SectionRead.{SectionRead}
 use Rattle.flat.specs.Words.{Stored}
 use Rattle.flat.specs.Records.{kindOf, recordWords, recordBy, recordOf}
 use Rattle.flat.specs.Below.{wordsChecked}

@@ -5,8 +5,8 @@ use Rattle.core.specs.Refusals.{numberOf, figureA, figureB}
 use Rattle.core.specs.declared.error.Refusal.{Refusal}
 use Rattle.core.specs.declared.checks.Written.{Written}
 use Rattle.core.specs.declared.checks.Written.the-variants as Writtens
-use Rattle.strip.specs.declared.read.Section.{Section}
-use Rattle.strip.specs.declared.read.Section.the-variants as Sections
+use Rattle.strip_read.specs.declared.read.Section.{Section}
+use Rattle.strip_read.specs.declared.read.Section.the-variants as Sections
 use Rattle.exports.specs.declared.answers.Answer.{Answer}
 
 abbrev pub answer : ℕ → ℕ → ℕ → ℕ → Answer

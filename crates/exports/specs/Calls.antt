@@ -26,16 +26,16 @@ use Rattle.window.specs.declared.body.WindowParsed.{WindowParsed}
 use Rattle.alignment.specs.Alignment.{blankAlignment}
 use Rattle.alignment.specs.Body.{alignmentParsed, alignmentWritten, alignmentOutput}
 use Rattle.alignment.specs.declared.body.AlignmentParsed.{AlignmentParsed}
-use Rattle.strip.specs.Whole.{Lists, lists, Whole}
-use Rattle.strip.specs.Read.{readSection, listsAfter}
-use Rattle.strip.specs.Write.{writeAnswer, writeOutput}
-use Rattle.strip.specs.declared.kind.Kind.{Kind}
-use Rattle.strip.specs.declared.kind.Kind.the-variants.{Pan1, Pic1, Txt1, Wnd1, Ali1}
-use Rattle.strip.specs.declared.record.Record.{Record}
-use Rattle.strip.specs.declared.read.BodyRead.{BodyRead}
-use Rattle.strip.specs.declared.read.Section.{Section}
-use Rattle.strip.specs.declared.read.Section.the-variants as Sections
-use Rattle.strip.specs.declared.read.SectionRead.{SectionRead}
+use Rattle.strip_kinds.specs.Whole.{Lists, lists, Whole}
+use Rattle.strip_read.specs.Read.{readSection, listsAfter}
+use Rattle.strip_write.specs.Write.{writeAnswer, writeOutput}
+use Rattle.strip_kinds.specs.declared.kind.Kind.{Kind}
+use Rattle.strip_kinds.specs.declared.kind.Kind.the-variants.{Pan1, Pic1, Txt1, Wnd1, Ali1}
+use Rattle.strip_kinds.specs.declared.record.Record.{Record}
+use Rattle.strip_kinds.specs.declared.body.BodyRead.{BodyRead}
+use Rattle.strip_read.specs.declared.read.Section.{Section}
+use Rattle.strip_read.specs.declared.read.Section.the-variants as Sections
+use Rattle.strip_read.specs.declared.read.SectionRead.{SectionRead}
 use Rattle.flat.specs.Own.{labelAt}
 use Rattle.flat.specs.Records.{kindOf, recordWords, recordOf}
 use Rattle.flat.specs.Below.{wordsChecked}

@@ -10,7 +10,7 @@ ghost use mathlib.Core.List.{[]};
 ghost use lib.ListN.{length};
 ghost use Rattle.picture.specs.Body.{quadsParsed};
 ghost use Rattle.window.specs.Body.{parsedQuads, parsedFrames};
-ghost use Rattle.strip.specs.Whole.{lists, noLists, whole};
+ghost use Rattle.strip_kinds.specs.Whole.{lists, noLists, whole};
 ghost use Rattle.exports.specs.Calls.{bodyParsed, unitsParsed, linesParsed, bodyLists, bodyAnswer, bodyOutput};
 
 fn parse_pan1(data: &[u8], place: usize) -> BodyRead

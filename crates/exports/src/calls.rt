@@ -16,7 +16,7 @@ use text_box::Label;
 ghost use Prim.Native.Nat.{_≤_};
 ghost use lib.ListN.{length};
 ghost use mathlib.Core.Path.{_≡_};
-ghost use Rattle.strip.specs.Whole.{Lists, lists};
+ghost use Rattle.strip_kinds.specs.Whole.{Lists, lists};
 ghost use Rattle.flat.specs.Below.{wordsChecked};
 ghost use Rattle.exports.specs.Calls.{readOutcome, delivered, sectionOutcome, bodySection, bodyOutcome, writeOutcome, sectionWritten, bodyWritten, labelOfWords, labelPart, captionPart, labelOutcome, captionOutcome};
 

@@ -6,7 +6,7 @@ mod calls;
 
 use flat::layout;
 ghost use mathlib.Core.Path.{_≡_};
-ghost use Rattle.strip.specs.Whole.{lists};
+ghost use Rattle.strip_kinds.specs.Whole.{lists};
 ghost use Rattle.exports.specs.Calls.{returned, readSeen, writeSeen, readSectionCall, readBodyCall, writeSectionCall, writeBodyCall, labelCall, captionCall};
 
 // The section at a place of data.

@@ -19,9 +19,9 @@ use Rattle.text_box_read.specs.declared.LineTable.the-variants as lines
 use Rattle.text_box_read.specs.declared.TextBoxPane.{TextBoxPane}
 use Rattle.picture.specs.declared.ShapeIndex.{ShapeIndex}
 use Rattle.picture.specs.declared.ShapeIndex.the-variants as shape
-use Rattle.strip.specs.declared.kind.Kind.{Kind}
-use Rattle.strip.specs.declared.kind.Kind.the-variants.{Pan1, Pic1, Txt1, Wnd1, Ali1}
-use Rattle.strip.specs.declared.record.Record.{Record}
+use Rattle.strip_kinds.specs.declared.kind.Kind.{Kind}
+use Rattle.strip_kinds.specs.declared.kind.Kind.the-variants.{Pan1, Pic1, Txt1, Wnd1, Ali1}
+use Rattle.strip_kinds.specs.declared.record.Record.{Record}
 use Rattle.flat.specs.Base.{nameWords, userWords, transformWords, baseWords}
 use Rattle.flat.specs.Words.{colorWords}
 use Rattle.flat.specs.Own.{shapeWords, pictureWords, measureWords, fontWords, shadowWords, textWords, labelWords, linesWords, partsWords, textBoxWords, windowWords}

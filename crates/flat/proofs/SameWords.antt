@@ -6,8 +6,8 @@ use native.Mathlib.Omega.{arith}
 use mathlib.Core.List.{List, [], _∷_, _++_}
 use lib.ListN.{length, getD}
 use Rattle.core.specs.Bytes.{splice}
-use Rattle.strip.specs.declared.kind.Kind.{Kind}
-use Rattle.strip.specs.declared.kind.Kind.the-variants.{Pan1, Pic1, Txt1, Wnd1, Ali1}
+use Rattle.strip_kinds.specs.declared.kind.Kind.{Kind}
+use Rattle.strip_kinds.specs.declared.kind.Kind.the-variants.{Pan1, Pic1, Txt1, Wnd1, Ali1}
 use Rattle.flat.specs.Words.{flagWord, flagAt, wordAt, byteAt, halfAt, bytesAt, quadrupleAt, colorWords, colorsAt, colorsWords, floatAt, vector2At, vector3At}
 use Rattle.flat.specs.Base.{paneFlagsWords, positionWords, flagExWords, nameWords, userWords, transformWords, baseWords, paneFlagsAt, positionAt, flagExAt, nameAt, userAt, baseAt}
 use Rattle.flat.specs.Own.{shapeWords, pictureWords, shapeAt, pictureAt, indicesWords, textFlagsWords, measureWords, fontWords, shadowWords, textWords, labelWords, linesWords, partsWords, textBoxWords, originAt, textFlagsAt, measureAt, textAt, labelAt, linesAt, textBoxAt, inflationWords, frameSizeWords, windowFlagsWords, contentWords, windowWords, sideAt, windowFlagsAt, contentAt, windowAt, alignmentWords, alignmentAt}

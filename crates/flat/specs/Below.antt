@@ -4,8 +4,8 @@ use mathlib.Core.Bool.{cond}
 use mathlib.Core.List.{List, [], _∷_}
 use lib.ListN.{getD}
 use lib.Dec.{ltb}
-use Rattle.strip.specs.declared.kind.Kind.{Kind}
-use Rattle.strip.specs.declared.kind.Kind.the-variants.{Pan1, Pic1, Txt1, Wnd1, Ali1}
+use Rattle.strip_kinds.specs.declared.kind.Kind.{Kind}
+use Rattle.strip_kinds.specs.declared.kind.Kind.the-variants.{Pan1, Pic1, Txt1, Wnd1, Ali1}
 use Rattle.flat.specs.Records.{kindOf}
 use Rattle.flat.specs.declared.bounds.Checked.{Checked}
 use Rattle.flat.specs.declared.bounds.Checked.the-variants.{Good, Bad}

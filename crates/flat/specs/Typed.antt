@@ -11,9 +11,9 @@ use Rattle.text_box_read.specs.declared.LineTable.the-variants as lines
 use Rattle.window_read.specs.Window.{blankWindow}
 use Rattle.alignment.specs.Alignment.{blankAlignment}
 use Rattle.strip.specs.Typed.{Below, TypedRecord}
-use Rattle.strip.specs.declared.kind.Kind.{Kind}
-use Rattle.strip.specs.declared.kind.Kind.the-variants.{Pan1, Pic1, Txt1, Wnd1, Ali1}
-use Rattle.strip.specs.declared.record.Record.{Record}
+use Rattle.strip_kinds.specs.declared.kind.Kind.{Kind}
+use Rattle.strip_kinds.specs.declared.kind.Kind.the-variants.{Pan1, Pic1, Txt1, Wnd1, Ali1}
+use Rattle.strip_kinds.specs.declared.record.Record.{Record}
 
 abbrev pub TypedLines : LineTable → Type 0
 TypedLines lines.Absent = Unit {0}

@@ -10,7 +10,7 @@ use strip::read::Section;
 use strip::record::Record;
 ghost use mathlib.Core.Path.{_≡_};
 ghost use Prim.Native.Nat.{_-_, _≤_};
-ghost use Rattle.strip.specs.Kinds.{letterBytes};
+ghost use Rattle.strip_kinds.specs.Kinds.{letterBytes};
 
 // ---- the parts of a line
 

@@ -29,21 +29,21 @@ use Rattle.text_box.proofs.Shift as text-box-shift
 use Rattle.window.proofs.Lengths as window-lengths
 use Rattle.window.proofs.Same as window-same
 use Rattle.alignment.proofs.Back as alignment-laws
-use Rattle.strip.specs.Kinds.{letterBytes, lettersOf, kindOf}
-use Rattle.strip.specs.Whole.{Lists, Whole, SameOwn, readWhole}
+use Rattle.strip_kinds.specs.Kinds.{letterBytes, lettersOf, kindOf}
+use Rattle.strip_kinds.specs.Whole.{Lists, Full, Whole}
+use Rattle.strip.specs.Same.{SameOwn, readWhole}
 use Rattle.strip.specs.Typed.{Typed}
-use Rattle.strip.specs.Read.{readStart, sizeBad, headerTaken, finished, readBody, byKind, listsByKind, orRefused, endedWith, readAt, listsAt, readSection, listsAfter}
-use Rattle.strip.specs.Write.{bodyLength, encodeBody, sectionSize, sizeOf, section, sectionEnd}
-use Rattle.strip.specs.Strip.{Full}
-use Rattle.strip.specs.declared.kind.Kind.{Kind}
-use Rattle.strip.specs.declared.kind.Kind.the-variants.{Pan1, Pic1, Txt1, Wnd1, Ali1}
-use Rattle.strip.specs.declared.kind.KindFound.{KindFound}
-use Rattle.strip.specs.declared.kind.KindFound.the-variants.{Is, Other}
-use Rattle.strip.specs.declared.record.Record.{Record}
-use Rattle.strip.specs.declared.read.Header.{Header}
-use Rattle.strip.specs.declared.read.SectionRead.{SectionRead}
-use Rattle.strip.specs.declared.read.Section.the-variants as Sections
-use Rattle.strip.proofs.Steps.{letters-bytes, size-parts}
+use Rattle.strip_read.specs.Read.{readStart, sizeBad, headerTaken, finished, readBody, byKind, listsByKind, orRefused, endedWith, readAt, listsAt, readSection, listsAfter}
+use Rattle.strip_write.specs.Write.{bodyLength, encodeBody, sectionSize, sizeOf, section, sectionEnd}
+use Rattle.strip_kinds.specs.declared.kind.Kind.{Kind}
+use Rattle.strip_kinds.specs.declared.kind.Kind.the-variants.{Pan1, Pic1, Txt1, Wnd1, Ali1}
+use Rattle.strip_kinds.specs.declared.kind.KindFound.{KindFound}
+use Rattle.strip_kinds.specs.declared.kind.KindFound.the-variants.{Is, Other}
+use Rattle.strip_kinds.specs.declared.record.Record.{Record}
+use Rattle.strip_read.specs.declared.read.Header.{Header}
+use Rattle.strip_read.specs.declared.read.SectionRead.{SectionRead}
+use Rattle.strip_read.specs.declared.read.Section.the-variants as Sections
+use Rattle.strip_write.proofs.Steps.{letters-bytes, size-parts}
 use Rattle.strip.proofs.BackKinds.{GoodWhole, BodyBack, readRecord, body-back}
 
 -- ---- lengths

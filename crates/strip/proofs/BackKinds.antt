@@ -48,16 +48,17 @@ use Rattle.alignment.specs.Alignment.{blankAlignment, encodeAlignment}
 use Rattle.alignment.specs.Body as alignment
 use Rattle.alignment.specs.declared.AlignmentPane.{AlignmentPane}
 use Rattle.alignment.proofs.Back as alignment-laws
-use Rattle.strip.specs.Whole.{Lists, Whole, SameOwn, readWhole, unitNumbers, lineNumbers}
+use Rattle.strip_kinds.specs.Whole.{Lists, Whole}
+use Rattle.strip.specs.Same.{SameOwn, readWhole, unitNumbers, lineNumbers}
 use Rattle.strip.specs.Typed.{Typed}
-use Rattle.strip.specs.Read.{bodyRead, bodyLists}
-use Rattle.strip.specs.Write.{encodeBody}
-use Rattle.strip.specs.declared.kind.Kind.{Kind}
-use Rattle.strip.specs.declared.kind.Kind.the-variants.{Pan1, Pic1, Txt1, Wnd1, Ali1}
-use Rattle.strip.specs.declared.record.Record.{Record}
-use Rattle.strip.specs.declared.read.BodyRead.{BodyRead}
+use Rattle.strip_kinds.specs.Body.{bodyRead, bodyLists}
+use Rattle.strip_write.specs.Write.{encodeBody}
+use Rattle.strip_kinds.specs.declared.kind.Kind.{Kind}
+use Rattle.strip_kinds.specs.declared.kind.Kind.the-variants.{Pan1, Pic1, Txt1, Wnd1, Ali1}
+use Rattle.strip_kinds.specs.declared.record.Record.{Record}
+use Rattle.strip_kinds.specs.declared.body.BodyRead.{BodyRead}
 use Rattle.strip.proofs.Below.{below-fit, below-at}
-use Rattle.strip.proofs.Cleared.{OwnGood}
+use Rattle.strip_write.proofs.Cleared.{OwnGood}
 
 -- what the types and a write's checks say of a record with its lists and label
 pub record GoodWhole (w : Whole) : Type 0 where

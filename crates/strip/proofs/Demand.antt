@@ -18,15 +18,16 @@ use Rattle.core.specs.declared.checks.Written.{Written}
 use Rattle.core.specs.declared.checks.Written.the-variants as Writtens
 use Rattle.core.proofs.Puts.{splice-cut, length-splice}
 use Rattle.core.proofs.Back.{Holds}
-use Rattle.strip.specs.Whole.{Lists, Whole, Same, readWhole}
+use Rattle.strip_kinds.specs.Whole.{Lists, Full, Whole}
+use Rattle.strip.specs.Same.{Same, readWhole}
 use Rattle.strip.specs.Typed.{Typed}
-use Rattle.strip.specs.Read.{endedWith, readSection, listsAfter}
-use Rattle.strip.specs.Write.{sizeOf, section, sectionEnd, writeChecked, writeAnswer, writeOutput}
-use Rattle.strip.specs.Strip.{All, Run, step, runFrom, run, strip, SameAll, Full, Gave, Gives}
-use Rattle.strip.specs.declared.read.SectionRead.{SectionRead}
-use Rattle.strip.specs.declared.read.Section.{Section}
-use Rattle.strip.specs.declared.read.Section.the-variants as Sections
-use Rattle.strip.proofs.Cleared.{Accepts, write-cleared}
+use Rattle.strip_read.specs.Read.{endedWith, readSection, listsAfter}
+use Rattle.strip_write.specs.Write.{sizeOf, section, sectionEnd, writeChecked, writeAnswer, writeOutput}
+use Rattle.strip.specs.Strip.{All, Run, step, runFrom, run, strip, SameAll, Gave, Gives}
+use Rattle.strip_read.specs.declared.read.SectionRead.{SectionRead}
+use Rattle.strip_read.specs.declared.read.Section.{Section}
+use Rattle.strip_read.specs.declared.read.Section.the-variants as Sections
+use Rattle.strip_write.proofs.Cleared.{Accepts, write-cleared}
 use Rattle.strip.proofs.Same.{section-same, same-both}
 use Rattle.strip.proofs.BackKinds.{GoodWhole, readRecord}
 use Rattle.pane.proofs.Same as pane

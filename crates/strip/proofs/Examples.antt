@@ -17,12 +17,13 @@ use Rattle.pane.specs.Body.{paneRead, paneParsed}
 use Rattle.text_box.proofs.Examples.{At8, layout, text-box-at-8}
 use Rattle.alignment.specs.Alignment.{alignmentTaken}
 use Rattle.alignment.specs.Body.{alignmentRead}
-use Rattle.strip.specs.Kinds.{letterBytes, kindOf}
-use Rattle.strip.specs.Whole.{Lists, lists}
-use Rattle.strip.specs.Read.{readStart, sizeBad, headerTaken, bodyRead, finished, readBody, byKind, orRefused, refusedWith, endedWith, readAt, readSection}
-use Rattle.strip.specs.Write.{sectionSize}
-use Rattle.strip.specs.declared.kind.Kind.the-variants.{Ali1}
-use Rattle.strip.specs.declared.read.Section.the-variants as Sections
+use Rattle.strip_kinds.specs.Kinds.{letterBytes, kindOf}
+use Rattle.strip_kinds.specs.Whole.{Lists, lists}
+use Rattle.strip_kinds.specs.Body.{bodyRead}
+use Rattle.strip_read.specs.Read.{readStart, sizeBad, headerTaken, finished, readBody, byKind, orRefused, refusedWith, endedWith, readAt, readSection}
+use Rattle.strip_write.specs.Write.{sectionSize}
+use Rattle.strip_kinds.specs.declared.kind.Kind.the-variants.{Ali1}
+use Rattle.strip_read.specs.declared.read.Section.the-variants as Sections
 
 abbrev pub zeros : ℕ → List ℕ
 zeros n = replicate n 0

@@ -1,7 +1,4 @@
 pub mod Below
-pub mod Cleared
-pub mod Steps
-pub mod Fixed
 pub mod BackKinds
 pub mod Back
 pub mod Same

@@ -1,6 +1,3 @@
-pub mod Kinds
-pub mod Whole
+pub mod Same
 pub mod Typed
-pub mod Read
-pub mod Write
 pub mod Strip

@@ -1,17 +1,18 @@
 -- A list of section writes, the strip that it leaves, and what reading the strip gives. All in terms of the definitions that the contracts
 -- of `read_section` and `write_section` cite.
 use mathlib.Core.Path.{_≡_}
-use Prim.Native.Nat.{ℕ, _≤_}
+use Prim.Native.Nat.{ℕ}
 use mathlib.Core.List.{List, [], _∷_}
 use lib.ListN.{length, take}
 use Rattle.core.specs.declared.cursor.ByteOrder.{ByteOrder}
 use Rattle.core.specs.declared.checks.Written.{Written}
 use Rattle.core.specs.declared.checks.Written.the-variants as Writtens
-use Rattle.strip.specs.Whole.{Lists, Whole, Same, readWhole}
-use Rattle.strip.specs.Read.{readSection, listsAfter}
-use Rattle.strip.specs.Write.{writeAnswer, writeOutput}
-use Rattle.strip.specs.declared.read.SectionRead.{SectionRead}
-use Rattle.strip.specs.declared.read.Section.the-variants as Sections
+use Rattle.strip_kinds.specs.Whole.{Lists, Full, Whole}
+use Rattle.strip.specs.Same.{Same, readWhole}
+use Rattle.strip_read.specs.Read.{readSection, listsAfter}
+use Rattle.strip_write.specs.Write.{writeAnswer, writeOutput}
+use Rattle.strip_read.specs.declared.read.SectionRead.{SectionRead}
+use Rattle.strip_read.specs.declared.read.Section.the-variants as Sections
 
 unfoldable pub All : {A : Type 0} → (A → Type 0) → List A → Type 0
 All P [] = Unit {0}
@@ -49,13 +50,6 @@ SameAll [] [] = Unit {0}
 SameAll [] (b ∷ others) = ⊥
 SameAll (a ∷ rest) [] = ⊥
 SameAll (a ∷ rest) (b ∷ others) = Same a b × SameAll rest others
-
--- full lists, whatever they hold
-pub record Full (l : Lists) : Type 0 where
-  pub quads : 2040 ≤ length (l .quads)
-  pub units : 32767 ≤ length (l .units)
-  pub lines : 510 ≤ length (l .lines)
-  pub frames : 510 ≤ length (l .frames)
 
 -- a read of s at p with l lent gives a pane and the next place e, and its record, with its lists as they stand right after the read and its
 -- label in the strip, is equal to w

@@ -6,8 +6,8 @@ use Rattle.picture.specs.Typed.{TypedPicture}
 use Rattle.text_box_read.specs.Typed.{TypedTextBox}
 use Rattle.window_read.specs.Typed.{TypedWindow}
 use Rattle.alignment.specs.Alignment.{TypedAlignment}
-use Rattle.strip.specs.Whole.{Whole}
-use Rattle.strip.specs.declared.record.Record.{Record}
+use Rattle.strip_kinds.specs.Whole.{Whole}
+use Rattle.strip_kinds.specs.declared.record.Record.{Record}
 
 -- every number of a list is below n
 unfoldable pub Below : ℕ → List ℕ → Type 0

@@ -1,40 +1,11 @@
-// A pane of any kind.
-use crate::kind::Kind;
-use alignment::AlignmentPane;
-use pane::Pane;
-use picture::PicturePane;
-use text_box::TextBoxPane;
-use window::WindowPane;
-ghost use mathlib.Core.Path.{_≡_};
+// A pane of any kind, and what the types say of one with its lists and label.
+pub use strip_kinds::record::Record;
+pub use strip_kinds::record::blank_record;
 ghost use Prim.Native.Nat.{_^_, _<_};
-ghost use Rattle.strip.specs.Whole.{blankRecord, whole};
+ghost use Rattle.strip_kinds.specs.Whole.{whole};
 ghost use Rattle.strip.specs.Typed.{Below, Typed, TypedRecord};
 
-// The fields of other kinds are blank after a read, and not looked at by a write.
-pub struct Record {
-    pub kind: Kind,
-    pub base: Pane,
-    pub picture: PicturePane,
-    pub text_box: TextBoxPane,
-    pub window: WindowPane,
-    pub alignment: AlignmentPane,
-}
-
-// The record beside an answer that is no pane.
-pub fn blank_record() -> Record
-    ensures { λ r. ⌜ r ≡ blankRecord ⌝ }
-{
-    Record {
-        kind: Kind::Pan1,
-        base: pane::blank_pane(),
-        picture: picture::blank_picture(),
-        text_box: text_box::blank_text_box(),
-        window: window::blank_window(),
-        alignment: alignment::blank_alignment(),
-    }
-}
-
-// ---- what the types say. A call of a function that does nothing brings what the type says of a lent list into a proof.
+// A call of a function that does nothing brings what the type says of a lent list into a proof.
 
 fn seen_u32s(list: &[u32]) {}
 

@@ -2,11 +2,11 @@
 use Prim.Native.Nat.{ℕ}
 use mathlib.Core.List.{List}
 use Rattle.core.specs.declared.cursor.ByteOrder.{ByteOrder}
-use Rattle.strip.specs.Read.{readSection}
-use Rattle.strip.specs.Whole.{Lists}
-use Rattle.strip.specs.declared.read.Section.{Section}
-use Rattle.strip.specs.declared.read.Section.the-variants.{End, Passed, Pane, Refused}
-use Rattle.strip.specs.declared.read.SectionRead.{SectionRead}
+use Rattle.strip_read.specs.Read.{readSection}
+use Rattle.strip_kinds.specs.Whole.{Lists}
+use Rattle.strip_read.specs.declared.read.Section.{Section}
+use Rattle.strip_read.specs.declared.read.Section.the-variants.{End, Passed, Pane, Refused}
+use Rattle.strip_read.specs.declared.read.SectionRead.{SectionRead}
 use Rattle.walk.specs.declared.Step.{Step}
 
 -- the next section's place after a pane or a passed section; at the end, and where the read is refused, the place stays

@@ -3,8 +3,8 @@ use core::cursor::ByteOrder;
 use strip::read::Section;
 use strip::record::Record;
 ghost use mathlib.Core.Path.{_≡_};
-ghost use Rattle.strip.specs.Whole.{lists};
-ghost use Rattle.strip.specs.Read.{listsAfter};
+ghost use Rattle.strip_kinds.specs.Whole.{lists};
+ghost use Rattle.strip_read.specs.Read.{listsAfter};
 ghost use Rattle.walk.specs.Walk.{placeAfter, stepAt};
 
 pub struct Walk<'a> {

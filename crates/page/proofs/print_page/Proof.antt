@@ -1,7 +1,7 @@
 use mathlib.Core.Path.{_≡_}
 use Prim.Native.Nat.{_≤_, _-_}
 use lib.ListN.{length}
-use Rattle.strip.specs.Whole.{lists}
+use Rattle.strip_kinds.specs.Whole.{lists}
 use Rattle.walk.proofs.Steps.{step-less}
 use borrow.Author.Needs.{needs}
 use Rattle.page.proofs.print_page.Statement.{statement}

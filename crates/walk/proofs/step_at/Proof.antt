@@ -4,7 +4,7 @@ use Rattle.walk.proofs.step_at.Statement.{statement}
 use Rattle.walk.proofs.step_at.Tie as tie
 use Rattle.walk.proofs.step_at.Reads as reads
 use Rattle.walk.proofs.step_at.Lts as lts
-use Rattle.strip.proofs.read.read_section.Reads as read-section-reads
+use Rattle.strip_read.proofs.read.read_section.Reads as read-section-reads
 use Rattle.walk.proofs.place_after.Reads as place-after-reads
 
 read-section-requires : tie.Need-read-section-requires

@@ -1,5 +1,5 @@
 use Rattle.exports.specs.Calls.{bodyAnswer, bodyOutput}
-use Rattle.strip.specs.Whole.{whole}
+use Rattle.strip_kinds.specs.Whole.{whole}
 use Rattle.exports.proofs.Outcomes.{wrote-as}
 use borrow.Author.Needs.{needs}
 use Rattle.exports.proofs.bodies.write.Statement.{statement}

@@ -6,7 +6,7 @@ use Rattle.exports.proofs.calls.read_section.Reads as reads
 use Rattle.exports.proofs.calls.read_section.Lts as lts
 use Rattle.exports.proofs.answers.short_record.Reads as short-record-reads
 use Rattle.exports.proofs.calls.deliver.Reads as deliver-reads
-use Rattle.strip.proofs.read.read_section.Reads as read-section-reads
+use Rattle.strip_read.proofs.read.read_section.Reads as read-section-reads
 
 short-record-requires : tie.Need-short-record-requires
 short-record-requires c κs = search needs

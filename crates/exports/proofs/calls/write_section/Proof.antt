@@ -10,7 +10,7 @@ use Rattle.exports.proofs.answers.written.Reads as written-reads
 use Rattle.exports.proofs.calls.record_checked.Reads as record-checked-reads
 use Rattle.flat.proofs.records.kind_of.Reads as kind-of-reads
 use Rattle.flat.proofs.records.record_of.Reads as record-of-reads
-use Rattle.strip.proofs.write.write_section.Reads as write-section-reads
+use Rattle.strip_write.proofs.write.write_section.Reads as write-section-reads
 
 short-record-requires : tie.Need-short-record-requires
 short-record-requires c κs = search needs

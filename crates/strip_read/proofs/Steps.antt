@@ -1,0 +1,63 @@
+-- The steps of the section read, as the code takes them.
+use mathlib.Core.Path.{_≡_, refl, sym, ap, _∙_}
+use Prim.Native.Nat.{ℕ, _+_, _≤_}
+use mathlib.Core.List.{List}
+use lib.ListN.{length}
+use borrow.Author.Tests.{eq-eqb, ne-eqb}
+use Rattle.core.specs.Taken.{start, numberTaken}
+use Rattle.core.specs.Checks.{unlessRefused}
+use Rattle.core.specs.declared.error.Refusal.{Refusal}
+use Rattle.core.specs.declared.cursor.ByteOrder.{ByteOrder}
+use Rattle.core.specs.declared.cursor.ByteOrder.the-variants.{Little}
+use Rattle.core.specs.declared.cursor.Cursor.{Cursor}
+use Rattle.core.specs.declared.cursor.Place.{Place}
+use Rattle.core.specs.declared.cursor.Place.the-variants.{At, Refused}
+use Rattle.core.proofs.Runs.{cleared}
+use Rattle.strip_kinds.specs.Kinds.{kindOf}
+use Rattle.strip_kinds.specs.Whole.{Lists}
+use Rattle.strip_kinds.specs.Body.{bodyRead, bodyLists}
+use Rattle.strip_read.specs.Read.{readStart, sizeBad, headerTaken, finished, readBody, byKind, listsByKind, orRefused, refusedWith, endedWith, passedWith, readAt, listsAt, readSection, listsAfter}
+use Rattle.strip_kinds.specs.declared.kind.Kind.{Kind}
+use Rattle.strip_kinds.specs.declared.kind.KindFound.the-variants.{Is, Other}
+use Rattle.strip_read.specs.declared.read.Header.{Header}
+use Rattle.strip_kinds.specs.declared.body.BodyRead.{BodyRead}
+use Rattle.strip_read.proofs.Cleared.{size-ok}
+
+module _ (order : ByteOrder) (s : List ℕ) where
+  module _ (p : ℕ) (h : Header) (e : h ≡ headerTaken order s p) where
+    pub header-refused : (why : Refusal) → h .then ≡ Refused why → (l : Lists) → (refusedWith why ≡ readAt order s p) × (l ≡ listsAt order s p l)
+    unfolding readAt listsAt orRefused unlessRefused
+    header-refused why g l = rw (← e, g) (refl, refl)
+
+    -- check 8 was passed
+    pub header-size : (c : Cursor) → h .then ≡ At c → p ≤ length s → p + h .size ≤ length s
+    unfolding headerTaken
+    header-size c g k =
+        let z = numberTaken order 4 s (numberTaken Little 4 s (At (start p)) .then) in
+        let f = cleared (z .then) (sizeBad (length s) p (z .value)) _ c (sym (ap (λ (x : Header). x .then) e) ∙ g) in
+        let y : h .size ≡ z .value = ap (λ (x : Header). x .size) e in
+        rw y (size-ok (length s) p (z .value) (f .1) k)
+
+    pub header-kind : (c : Cursor) → h .then ≡ At c → (kind : Kind) → Is kind ≡ kindOf (h .letters) → (l m : Lists) (b : BodyRead)
+        → b ≡ bodyRead order kind s (At c) (p + 8) → m ≡ bodyLists order kind s (At c) (p + 8) l
+        → (finished (b .answer) (p + h .size) (b .«record») ≡ readAt order s p) × (m ≡ listsAt order s p l)
+    unfolding readAt listsAt orRefused unlessRefused byKind listsByKind readBody
+    header-kind c g kind k l m b x y = rw (← e, g, ← k, x, y) (refl, refl)
+
+    pub header-other : (c : Cursor) → h .then ≡ At c → Other ≡ kindOf (h .letters) → (l : Lists) → (passedWith (p + h .size) ≡ readAt order s p) × (l ≡ listsAt order s p l)
+    unfolding readAt listsAt orRefused unlessRefused byKind listsByKind
+    header-other c g k l = rw (← e, g, ← k) (refl, refl)
+
+  module _ (p : ℕ) (l : Lists) (q : Place)
+      (e : q ≡ readStart (length s) p (length (l .quads)) (length (l .units)) (length (l .lines)) (length (l .frames))) where
+    pub read-refused : (why : Refusal) → q ≡ Refused why → (refusedWith why ≡ readSection order s p l) × (l ≡ listsAfter order s p l)
+    unfolding readSection listsAfter orRefused unlessRefused
+    read-refused why g = rw (← e, g) (refl, refl)
+
+    pub read-end : (c : Cursor) → q ≡ At c → p ≡ length s → (endedWith ≡ readSection order s p l) × (l ≡ listsAfter order s p l)
+    unfolding readSection listsAfter orRefused unlessRefused
+    read-end c g h = rw (← e, g, eq-eqb _ _ h) (refl, refl)
+
+    pub read-on : (c : Cursor) → q ≡ At c → (p ≡ length s → ⊥) → (readAt order s p ≡ readSection order s p l) × (listsAt order s p l ≡ listsAfter order s p l)
+    unfolding readSection listsAfter orRefused unlessRefused
+    read-on c g h = rw (← e, g, ne-eqb _ _ h) (refl, refl)

@@ -1,0 +1,109 @@
+-- A section read: what it answers, its record, and the lists after it.
+use Prim.Native.Nat.{ℕ, _+_, _-_, _%_}
+use mathlib.Core.Bool.{Bool, cond, _||_}
+use mathlib.Core.List.{List}
+use lib.ListN.{length}
+use lib.Dec.{ltb, eqb}
+use Rattle.core.specs.Taken.{start, stopIf, u32Taken}
+use Rattle.core.specs.Checks.{sectionStart, listChecked, unlessRefused}
+use Rattle.core.specs.declared.error.Refusal.{Refusal}
+use Rattle.core.specs.declared.error.Refusal.the-variants.{SectionSize}
+use Rattle.core.specs.declared.cursor.ByteOrder.{ByteOrder}
+use Rattle.core.specs.declared.cursor.ByteOrder.the-variants.{Little}
+use Rattle.core.specs.declared.cursor.Place.{Place}
+use Rattle.core.specs.declared.cursor.Place.the-variants as Places
+use Rattle.core.specs.declared.cursor.U32Taken.{U32Taken}
+use Rattle.core.specs.declared.checks.Parsed.{Parsed}
+use Rattle.core.specs.declared.checks.Parsed.the-variants as Parseds
+use Rattle.strip_kinds.specs.Kinds.{kindOf}
+use Rattle.strip_kinds.specs.Whole.{Lists, blankRecord}
+use Rattle.strip_kinds.specs.Body.{bodyRead, bodyLists}
+use Rattle.strip_kinds.specs.declared.kind.Kind.{Kind}
+use Rattle.strip_kinds.specs.declared.kind.KindFound.{KindFound}
+use Rattle.strip_kinds.specs.declared.kind.KindFound.the-variants.{Is, Other}
+use Rattle.strip_kinds.specs.declared.record.Record.{Record}
+use Rattle.strip_read.specs.declared.read.Header.{Header}
+use Rattle.strip_kinds.specs.declared.body.BodyRead.{BodyRead}
+use Rattle.strip_read.specs.declared.read.SectionRead.{SectionRead}
+use Rattle.strip_read.specs.declared.read.Section.the-variants as Sections
+
+-- 1, 2, and 3 of four lists with so many numbers: quads 2,040, units 32,767, lines 510, frames 510
+unfoldable pub readStart : ℕ → ℕ → ℕ → ℕ → ℕ → ℕ → Place
+readStart n p quads units lines frames =
+    listChecked (listChecked (listChecked (listChecked (sectionStart n p) 1 2040 quads) 2 32767 units) 3 510 lines) 4 510 frames
+
+-- 8, of a section at p of n bytes: size below 8, no multiple of 4, or past the buffer
+unfoldable pub sizeBad : ℕ → ℕ → ℕ → Bool
+sizeBad n p size = (ltb size 8 || ltb 0 (size % 4)) || ltb (n - p) size
+
+-- letters and size, four bytes each, and 8
+unfoldable pub headerTaken : ByteOrder → List ℕ → ℕ → Header
+headerTaken order s p =
+    let letters : U32Taken = u32Taken Little s (Places.At (start p)) in
+    let size : U32Taken = u32Taken order s (letters .then) in
+    record {
+      letters = letters .value;
+      size = size .value;
+      then = stopIf (size .then) (sizeBad (length s) p (size .value)) (SectionSize (p + 4) (size .value));
+    }
+
+-- ---- answers; the record is blank unless a pane was read
+
+unfoldable pub refusedWith : Refusal → SectionRead
+refusedWith why = record { answer = Sections.Refused why; «record» = blankRecord }
+
+unfoldable pub endedWith : SectionRead
+endedWith = record { answer = Sections.End; «record» = blankRecord }
+
+unfoldable pub passedWith : ℕ → SectionRead
+passedWith next = record { answer = Sections.Passed next; «record» = blankRecord }
+
+-- the record where the body was read
+unfoldable pub finished : Parsed → ℕ → Record → SectionRead
+finished (Parseds.Read end) next r = record { answer = Sections.Pane end next; «record» = r }
+finished (Parseds.Refused why) next r = refusedWith why
+
+unfoldable pub readBody : ByteOrder → Kind → List ℕ → Place → ℕ → ℕ → SectionRead
+readBody order kind s p body next =
+    let b : BodyRead = bodyRead order kind s p body in
+    finished (b .answer) next (b .«record»)
+
+-- other letters are passed
+unfoldable pub byKind : ByteOrder → KindFound → List ℕ → Place → ℕ → ℕ → SectionRead
+byKind order (Is kind) s p body next = readBody order kind s p body next
+byKind order Other s p body next = passedWith next
+
+unfoldable pub listsByKind : ByteOrder → KindFound → List ℕ → Place → ℕ → Lists → Lists
+listsByKind order (Is kind) s p body l = bodyLists order kind s p body l
+listsByKind order Other s p body l = l
+
+-- r where no check has refused
+unfoldable pub orRefused : Place → SectionRead → SectionRead
+orRefused (Places.At c) r = r
+orRefused (Places.Refused why) r = refusedWith why
+
+-- the section at p: its header, and a body at p + 8
+unfoldable pub readAt : ByteOrder → List ℕ → ℕ → SectionRead
+readAt order s p =
+    let h : Header = headerTaken order s p in
+    orRefused (h .then) (byKind order (kindOf (h .letters)) s (h .then) (p + 8) (p + h .size))
+
+-- THE SECTION READ at p of s, with the lists l lent: 1, 2, 3, the end at the length, and then so
+unfoldable pub readSection : ByteOrder → List ℕ → ℕ → Lists → SectionRead
+readSection order s p l =
+    orRefused
+    (readStart (length s) p (length (l .quads)) (length (l .units)) (length (l .lines)) (length (l .frames)))
+    (cond (eqb p (length s)) endedWith (readAt order s p))
+
+-- the lists after it: changed only by the body of a pane that is read
+unfoldable pub listsAt : ByteOrder → List ℕ → ℕ → Lists → Lists
+listsAt order s p l =
+    let h : Header = headerTaken order s p in
+    unlessRefused (h .then) l (listsByKind order (kindOf (h .letters)) s (h .then) (p + 8) l)
+
+unfoldable pub listsAfter : ByteOrder → List ℕ → ℕ → Lists → Lists
+listsAfter order s p l =
+    unlessRefused
+    (readStart (length s) p (length (l .quads)) (length (l .units)) (length (l .lines)) (length (l .frames)))
+    l
+    (cond (eqb p (length s)) l (listsAt order s p l))

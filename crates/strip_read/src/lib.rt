@@ -1,0 +1,2 @@
+// The section read.
+pub mod read;

@@ -1,0 +1,203 @@
+// The section read.
+use core::checks;
+use core::checks::Parsed;
+use core::cursor;
+use core::cursor::ByteOrder;
+use core::cursor::Cursor;
+use core::cursor::Place;
+use core::error::Refusal;
+pub use strip_kinds::body::BodyRead;
+use strip_kinds::body::read_kind;
+use strip_kinds::kind::Kind;
+use strip_kinds::kind::KindFound;
+use strip_kinds::record::Record;
+use strip_kinds::record::blank_record;
+ghost use mathlib.Core.Path.{_≡_};
+ghost use Prim.Native.Nat.{_+_, _≤_};
+ghost use lib.ListN.{length};
+ghost use Rattle.strip_kinds.specs.Whole.{lists, Full};
+ghost use Rattle.strip_read.specs.Read.{readStart, headerTaken, refusedWith, endedWith, passedWith, finished, readAt, listsAt, readSection, listsAfter};
+
+// What a section read answers: the place after the body read and the next section; the next section; the end; or why not.
+pub enum Section {
+    End,
+    Passed { next: usize },
+    Pane { end: usize, next: usize },
+    Refused(Refusal),
+}
+
+pub struct SectionRead {
+    pub answer: Section,
+    pub record: Record,
+}
+
+pub struct Header {
+    pub letters: u32,
+    pub size: usize,
+    pub then: Place,
+}
+
+// 1, 2 and 3
+fn read_start(
+    length: usize,
+    place: usize,
+    quads: usize,
+    units: usize,
+    lines: usize,
+    frames: usize,
+) -> Place
+    ensures { λ r. ⌜ r ≡ readStart length place quads units lines frames ⌝ }
+{
+    let p = checks::section_start(length, place);
+    let p = checks::list_checked(p, 1, 2040, quads);
+    let p = checks::list_checked(p, 2, 32767, units);
+    let p = checks::list_checked(p, 3, 510, lines);
+    checks::list_checked(p, 4, 510, frames)
+}
+
+// Letters and size, and check 8.
+fn take_header(order: ByteOrder, data: &[u8], place: usize) -> Header
+    requires { ⌜ (place ≤ length (now «data»)) × (length (now «data») ≤ 16777216) ⌝ }
+    ensures { λ r. ⌜ r ≡ headerTaken order (now («data» .entry)) place ⌝ }
+{
+    let letters = cursor::take_u32(ByteOrder::Little, data, Place::At(Cursor::start(place)));
+    let p1 = letters.then;
+    let word = cursor::take_u32(order, data, p1);
+    let p2 = word.then;
+    let size = word.value as usize;
+    let bad = (size < 8) | (0 < size % 4) | (data.len() - place < size);
+    let then = cursor::stop_if(
+        p2,
+        bad,
+        Refusal::SectionSize {
+            place: place + 4,
+            size,
+        },
+    );
+    Header {
+        letters: letters.value,
+        size,
+        then,
+    }
+}
+
+fn refused(why: Refusal) -> SectionRead
+    ensures { λ r. ⌜ r ≡ refusedWith why ⌝ }
+{
+    SectionRead {
+        answer: Section::Refused(why),
+        record: blank_record(),
+    }
+}
+
+fn ended() -> SectionRead
+    ensures { λ r. ⌜ r ≡ endedWith ⌝ }
+{
+    SectionRead {
+        answer: Section::End,
+        record: blank_record(),
+    }
+}
+
+fn passed(next: usize) -> SectionRead
+    ensures { λ r. ⌜ r ≡ passedWith next ⌝ }
+{
+    SectionRead {
+        answer: Section::Passed { next },
+        record: blank_record(),
+    }
+}
+
+// A body that was read, as a section.
+fn finish(read: BodyRead, next: usize) -> SectionRead
+    ensures { λ r. ⌜ r ≡ finished (read .answer) next (read .«record») ⌝ }
+{
+    let answer = read.answer;
+    match answer {
+        Parsed::Read { end } => {
+            let record = read.record;
+            SectionRead {
+                answer: Section::Pane { end, next },
+                record,
+            }
+        }
+        Parsed::Refused(why) => refused(why),
+    }
+}
+
+fn read_at(
+    order: ByteOrder,
+    data: &[u8],
+    place: usize,
+    quads: &mut [u32],
+    units: &mut [u16],
+    lines: &mut [u32],
+    frames: &mut [u16],
+) -> SectionRead
+    requires { ⌜ (place ≤ length (now «data»)) × (length (now «data») ≤ 16777216) × Full (lists (now quads) (now units) (now lines) (now frames)) ⌝ }
+    ensures { λ r. ⌜ r ≡ readAt order (now («data» .entry)) place ⌝ }
+    ensures { λ _. ⌜ lists (now (quads .exit)) (now (units .exit)) (now (lines .exit)) (now (frames .exit)) ≡ listsAt order (now («data» .entry)) place (lists (now (quads .entry)) (now (units .entry)) (now (lines .entry)) (now (frames .entry))) ⌝ }
+{
+    let header = take_header(order, data, place);
+    let letters = header.letters;
+    let size = header.size;
+    let then = header.then;
+    match then {
+        Place::Refused(why) => refused(why),
+        Place::At(c) => {
+            let next = place + size;
+            let found = Kind::of_letters(letters);
+            match found {
+                KindFound::Is(kind) => {
+                    let body = place + 8;
+                    let read = read_kind(
+                        order,
+                        kind,
+                        data,
+                        Place::At(c),
+                        body,
+                        quads,
+                        units,
+                        lines,
+                        frames,
+                    );
+                    finish(read, next)
+                }
+                KindFound::Other => passed(next),
+            }
+        }
+    }
+}
+
+// The section at a place: checks 1, 2, 3, the end, the header, check 8, the body, check 7. Lists change only where a pane is read.
+pub fn read_section(
+    order: ByteOrder,
+    data: &[u8],
+    place: usize,
+    quads: &mut [u32],
+    units: &mut [u16],
+    lines: &mut [u32],
+    frames: &mut [u16],
+) -> SectionRead
+    ensures { λ r. ⌜ r ≡ readSection order (now («data» .entry)) place (lists (now (quads .entry)) (now (units .entry)) (now (lines .entry)) (now (frames .entry))) ⌝ }
+    ensures { λ _. ⌜ lists (now (quads .exit)) (now (units .exit)) (now (lines .exit)) (now (frames .exit)) ≡ listsAfter order (now («data» .entry)) place (lists (now (quads .entry)) (now (units .entry)) (now (lines .entry)) (now (frames .entry))) ⌝ }
+{
+    let p = read_start(
+        data.len(),
+        place,
+        quads.len(),
+        units.len(),
+        lines.len(),
+        frames.len(),
+    );
+    match p {
+        Place::Refused(why) => refused(why),
+        Place::At(_) => {
+            if place == data.len() {
+                ended()
+            } else {
+                read_at(order, data, place, quads, units, lines, frames)
+            }
+        }
+    }
+}

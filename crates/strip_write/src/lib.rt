@@ -1,0 +1,2 @@
+// The section write.
+pub mod write;

@@ -8,3 +8,4 @@ pub mod Padding
 pub mod Puts
 pub mod Lists
 pub mod Back
+pub mod Here

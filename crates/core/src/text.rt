@@ -4,7 +4,8 @@ use crate::error::Refusal;
 ghost use mathlib.Core.Path.{_≡_};
 ghost use Prim.Native.Nat.{_+_, _≤_, min};
 ghost use lib.ListN.{length};
-ghost use Rattle.core.specs.Taken.{upToNul, hasZero, over, asCount, stringTaken, string24Taken, string8Taken, labelTaken};
+ghost use Rattle.core.specs.Bytes.{part, Room};
+ghost use Rattle.core.specs.Taken.{upToNul, hasZero, over, asCount, stringTaken, string24Of, string8Of, string24Taken, string8Taken, labelTaken};
 
 // A string of at most 24 bytes: its bytes with their count. What stands after them is no part of it.
 pub struct FixedString24 {
@@ -137,6 +138,26 @@ pub fn take_string8(data: &[u8], p: Place) -> String8Taken
         },
         then,
     }
+}
+
+// The fixed string of 24 bytes at a place.
+pub fn string24_at(data: &[u8], at: usize) -> FixedString24
+    requires { ⌜ Room (now «data») at 24 ⌝ }
+    ensures { λ r. ⌜ r ≡ string24Of (upToNul (part 24 (now («data» .entry)) at)) ⌝ }
+{
+    let mut bytes = [0u8; 24];
+    let count = fill_string(&data[at..at + 24], &mut bytes);
+    FixedString24 { bytes, count }
+}
+
+// The fixed string of 8 bytes at a place.
+pub fn string8_at(data: &[u8], at: usize) -> FixedString8
+    requires { ⌜ Room (now «data») at 8 ⌝ }
+    ensures { λ r. ⌜ r ≡ string8Of (upToNul (part 8 (now («data» .entry)) at)) ⌝ }
+{
+    let mut bytes = [0u8; 8];
+    let count = fill_string(&data[at..at + 8], &mut bytes);
+    FixedString8 { bytes, count }
 }
 
 // How many bytes stand before the first NUL.

@@ -3,4 +3,5 @@ pub mod Parts
 pub mod Colors
 pub mod QuadBits
 pub mod QuadRuns
+pub mod Here
 pub mod Examples

@@ -1,21 +1,22 @@
 -- Vectors, colours and quads are runs of numbers of one width: so they are written, and so they are read back.
 use mathlib.Core.Path.{_≡_, refl, sym, ap, _∙_, subst}
-use Prim.Native.Nat.{ℕ, suc, _+_, _*_, _^_, _<_}
+use Prim.Native.Nat.{ℕ, suc, _+_, _*_, _^_, _≤_, _<_}
 use native.Mathlib.Nat.{add-zero, mul-zero, mul-suc}
 use native.Mathlib.Omega.{arith}
 use mathlib.Core.List.{List, [], _∷_, _++_, append-assoc, append-nil}
 use lib.ListN.{length, getD}
 use Rattle.core.specs.Bytes.{bytesOf, bytesOfAll}
 use Rattle.core.specs.Taken.{Taken, advanced}
-use Rattle.core.specs.Lists.{numbersTaken}
+use Rattle.core.specs.Lists.{numbersTaken, numbersAt}
 use Rattle.core.specs.declared.cursor.ByteOrder.{ByteOrder}
 use Rattle.core.specs.declared.cursor.Cursor.{Cursor}
 use Rattle.core.specs.declared.cursor.Place.{Place}
 use Rattle.core.specs.declared.cursor.Place.the-variants.{At}
 use Rattle.core.proofs.Numbers.{length-bytes}
-use Rattle.core.proofs.Back.{Holds, length-all, cut, number-at}
+use Rattle.core.proofs.Back.{Holds, holds-fits, length-all, cut, number-at}
+use Rattle.core.proofs.Here.{numbers-there}
 use Rattle.ui2d.specs.Floats.{float}
-use Rattle.ui2d.specs.Parts.{vector2Taken, vector3Taken, colorTaken, quadTaken, encodeVector2, encodeVector3, encodeColor, encodeQuad}
+use Rattle.ui2d.specs.Parts.{vector2Taken, vector3Taken, colorTaken, encodeVector2, encodeVector3, encodeColor, encodeQuad}
 use Rattle.ui2d.specs.Quads.{vectorBits, quadBits, vectorAt, quadAt}
 use Rattle.ui2d.specs.Typed.{TypedVector2, TypedVector3, TypedColor, TypedQuad}
 use Rattle.ui2d.specs.declared.Vector2f.{Vector2f}
@@ -25,7 +26,6 @@ use Rattle.ui2d.specs.declared.Quad.{Quad}
 use Rattle.ui2d.specs.declared.Vector2Taken.{Vector2Taken}
 use Rattle.ui2d.specs.declared.Vector3Taken.{Vector3Taken}
 use Rattle.ui2d.specs.declared.ColorTaken.{ColorTaken}
-use Rattle.ui2d.specs.declared.QuadTaken.{QuadTaken}
 
 -- ---- the numbers
 
@@ -88,15 +88,17 @@ module _ (order : ByteOrder) where
 abbrev pub asVector2 : Taken (List ℕ) → Vector2Taken
 asVector2 t = record { value = vectorAt (t .value) 0; then = t .then }
 
+abbrev pub vector3Of : List ℕ → Vector3f
+vector3Of l = record { x = float (getD l 0 0); y = float (getD l 1 0); z = float (getD l 2 0) }
+
 abbrev pub asVector3 : Taken (List ℕ) → Vector3Taken
-asVector3 t = record { value = record { x = float (getD (t .value) 0 0); y = float (getD (t .value) 1 0); z = float (getD (t .value) 2 0) }; then = t .then }
+asVector3 t = record { value = vector3Of (t .value); then = t .then }
+
+abbrev pub colorOf : List ℕ → Color4u8
+colorOf l = record { r = getD l 0 0; g = getD l 1 0; b = getD l 2 0; a = getD l 3 0 }
 
 abbrev pub asColor : Taken (List ℕ) → ColorTaken
-asColor t =
-    record { value = record { r = getD (t .value) 0 0; g = getD (t .value) 1 0; b = getD (t .value) 2 0; a = getD (t .value) 3 0 }; then = t .then }
-
-abbrev pub asQuad : Taken (List ℕ) → QuadTaken
-asQuad t = record { value = quadAt (t .value) 0; then = t .then }
+asColor t = record { value = colorOf (t .value); then = t .then }
 
 module _ (order : ByteOrder) (s : List ℕ) (p : Place) where
   pub vector2-run : vector2Taken order s p ≡ asVector2 (numbersTaken order 4 2 s p)
@@ -110,19 +112,6 @@ module _ (order : ByteOrder) (s : List ℕ) (p : Place) where
   pub color-run : colorTaken order s p ≡ asColor (numbersTaken order 1 4 s p)
   unfolding colorTaken numbersTaken
   color-run = refl
-
-  pub quad-run : quadTaken order s p ≡ asQuad (numbersTaken order 4 8 s p)
-  unfolding quadTaken vector2Taken numbersTaken quadAt vectorAt
-  quad-run = refl
-
-  -- a quad and eight numbers: the same numbers, and the same place
-  pub quad-numbers : quadBits (quadTaken order s p .value) ≡ numbersTaken order 4 8 s p .value
-  unfolding quadTaken vector2Taken numbersTaken quadBits vectorBits
-  quad-numbers = refl
-
-  pub quad-place : quadTaken order s p .then ≡ numbersTaken order 4 8 s p .then
-  unfolding quadTaken vector2Taken numbersTaken
-  quad-place = refl
 
 -- ---- read back, at an offset k of a cursor
 
@@ -155,8 +144,9 @@ module _ {s : List ℕ} (c : Cursor) (order : ByteOrder) where
       → _≡_ {A = ColorTaken} (colorTaken order s (At (advanced c k))) (record { value = v; then = At (advanced c (k + 4)) })
   color-at k v t a = run-at 1 k (channels v) asColor (color-run order s _) (color-bytes order v) (t .r, (t .g, (t .b, (t .a, tt)))) a
 
-  pub quad-at : (k : ℕ) (v : Quad) → TypedQuad v → Holds s (c .pos + k) (encodeQuad order v)
-      → _≡_ {A = QuadTaken} (quadTaken order s (At (advanced c k))) (record { value = v; then = At (advanced c (k + 32)) })
+  pub quad-back : (k : ℕ) (v : Quad) → TypedQuad v → Holds s (c .pos + k) (encodeQuad order v) → quadAt (numbersAt order 4 8 s (c .pos + k)) 0 ≡ v
   unfolding quadBits vectorBits quadAt vectorAt
-  quad-at k v t a =
-      run-at 4 k (quadBits v) asQuad (quad-run order s _) (quad-bytes order v) (quad-fit v t) a
+  quad-back k v t a =
+      let fits : c .pos + k + 32 ≤ length s = omega (arith, length-quad order v, holds-fits (encodeQuad order v) a) in
+      let b = subst (Holds s (c .pos + k)) (quad-bytes order v) a in
+      ap (λ t. quadAt (t .value) 0) (sym (numbers-there s c k order 4 8 fits) ∙ numbers-at 4 k (quadBits v) (quad-fit v t) b)

@@ -7,20 +7,15 @@ use mathlib.Core.List.{List, _∷_, _++_}
 use lib.ListN.{length, take, drop, length-append, length-drop}
 use lib.Seq.{take-at, take-add, drop-append-add, drop-drop}
 use Rattle.core.specs.Bytes.{numberAt, bytesOfAll, splice}
-use Rattle.core.specs.Taken.{start}
 use Rattle.core.specs.Lists.{numbersAt}
 use Rattle.core.specs.declared.cursor.ByteOrder.{ByteOrder}
-use Rattle.core.specs.declared.cursor.Cursor.{Cursor}
-use Rattle.core.specs.declared.cursor.Place.the-variants.{At}
-use Rattle.core.proofs.Cursors.{pos-start}
 use Rattle.core.proofs.Puts.{length-splice, splice-cut, all-append}
-use Rattle.core.proofs.Lists.{Filled, numbers-here, length-numbers}
-use Rattle.ui2d.specs.Parts.{quadTaken, encodeQuad}
+use Rattle.core.proofs.Lists.{Filled, length-numbers}
+use Rattle.ui2d.specs.Parts.{encodeQuad}
 use Rattle.ui2d.specs.Quads.{quadBits, quadAt}
 use Rattle.ui2d.specs.declared.Quad.{Quad}
-use Rattle.ui2d.specs.declared.QuadTaken.{QuadTaken}
-use Rattle.ui2d.proofs.Parts.{quad-bytes, quad-numbers}
-use Rattle.ui2d.proofs.QuadBits.{quad-cut}
+use Rattle.ui2d.proofs.Parts.{quad-bytes}
+use Rattle.ui2d.proofs.QuadBits.{quad-cut, bits-quad}
 
 -- the bytes of one quad more
 pub quads-more : (order : ByteOrder) (l : List ℕ) (i : ℕ) (q : Quad) → i + 8 ≤ length l → q ≡ quadAt l i
@@ -38,14 +33,6 @@ numbers-join order w (suc m) k s at =
     let e : at + w + w * m ≡ at + w * suc m = omega (arith, mul-suc w m) in
     rw (suc-add m k) (ap (λ (l : List ℕ). numberAt order w s at ∷ l) (rw (← e) (numbers-join order w m k s (at + w))))
 
--- a quad at a place is its eight numbers
-quad-there : (order : ByteOrder) (s : List ℕ) (at : ℕ) → at + 32 ≤ length s → quadBits (quadTaken order s (At (start at)) .value) ≡ numbersAt order 4 8 s at
-quad-there order s at h =
-    let k : start at .pos + 32 ≤ length s = rw pos-start h in
-    quad-numbers order s (At (start at))
-    ∙ ap (λ t. t .value) (numbers-here order 4 s 8 (start at) k)
-    ∙ ap (numbersAt order 4 8 s) (pos-start at)
-
 -- k numbers laid after m, where the old ones stood
 laid : (order : ByteOrder) (s : List ℕ) (at m k : ℕ) (old : List ℕ) → m + k ≤ length old
     → splice (numbersAt order 4 m s at ++ drop m old) m (numbersAt order 4 k s (at + 4 * m)) ≡ numbersAt order 4 (m + k) s at ++ drop (m + k) old
@@ -61,15 +48,15 @@ laid order s at m k old h =
 
 -- one quad more at the front of a list
 pub quad-filled : (order : ByteOrder) (s : List ℕ) (at n : ℕ) (old l : List ℕ) (i : ℕ) → Filled order 4 s at (8 * n) old l (8 * i)
-    → i < n → at + 32 * n ≤ length s → 8 * n ≤ length old → (c : Cursor) → c ≡ start (at + 32 * i) → (t : QuadTaken) → t ≡ quadTaken order s (At c)
-    → Filled order 4 s at (8 * n) old (splice l (8 * i) (quadBits (t .value))) (8 * (i + 1))
-quad-filled order s at n old l i f h r k c e t g =
+    → i < n → 8 * n ≤ length old → (q : Quad) → q ≡ quadAt (numbersAt order 4 8 s (at + 32 * i)) 0
+    → Filled order 4 s at (8 * n) old (splice l (8 * i) (quadBits q)) (8 * (i + 1))
+quad-filled order s at n old l i f h k q e =
     let next : 8 * (i + 1) ≡ 8 * i + 8 = omega arith in
     let place : at + 32 * i ≡ at + 4 * (8 * i) = omega arith in
     record {
       within = omega arith;
-      long = length-splice l (8 * i) (quadBits (t .value)) ∙ f .long;
+      long = length-splice l (8 * i) (quadBits q) ∙ f .long;
       front =
-          rw (g, e, place, f .front, quad-there order s (at + 4 * (8 * i)) (omega arith), next)
+          rw (e, place, f .front, bits-quad (numbersAt order 4 8 s (at + 4 * (8 * i))) (length-numbers order 4 8 s (at + 4 * (8 * i))), next)
           (laid order s at (8 * i) 8 old (omega arith));
     }

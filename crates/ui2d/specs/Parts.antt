@@ -16,7 +16,6 @@ use Rattle.ui2d.specs.declared.Vector2Taken.{Vector2Taken}
 use Rattle.ui2d.specs.declared.Vector3Taken.{Vector3Taken}
 use Rattle.ui2d.specs.declared.ColorTaken.{ColorTaken}
 use Rattle.ui2d.specs.declared.ColorsTaken.{ColorsTaken}
-use Rattle.ui2d.specs.declared.QuadTaken.{QuadTaken}
 
 -- ---- read
 
@@ -52,18 +51,6 @@ colorsTaken order s p =
     let br : ColorTaken = colorTaken order s (bl .then) in
     record { value = tl .value ∷ tr .value ∷ bl .value ∷ br .value ∷ []; then = br .then }
 
--- a quad is four corner points, eight floats, in the order of the colours
-unfoldable pub quadTaken : ByteOrder → List ℕ → Place → QuadTaken
-quadTaken order s p =
-    let tl : Vector2Taken = vector2Taken order s p in
-    let tr : Vector2Taken = vector2Taken order s (tl .then) in
-    let bl : Vector2Taken = vector2Taken order s (tr .then) in
-    let br : Vector2Taken = vector2Taken order s (bl .then) in
-    record {
-      value = record { «top_left» = tl .value; «top_right» = tr .value; «bottom_left» = bl .value; «bottom_right» = br .value };
-      then = br .then;
-    }
-
 -- ---- written
 
 unfoldable pub encodeVector2 : ByteOrder → Vector2f → List ℕ
@@ -80,6 +67,7 @@ unfoldable pub encodeColors : ByteOrder → List Color4u8 → List ℕ
 encodeColors order [] = []
 encodeColors order (v ∷ vs) = encodeColor order v ++ encodeColors order vs
 
+-- a quad is four corner points, eight floats, in the order of the colours
 unfoldable pub encodeQuad : ByteOrder → Quad → List ℕ
 encodeQuad order v =
     encodeVector2 order (v .«top_left»)

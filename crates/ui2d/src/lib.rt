@@ -1,4 +1,5 @@
 // Floats kept by their bits, vectors, colours and quads: at a place of lent bytes, and quads in a lent list of bits.
+pub mod fixed;
 pub mod quads;
 
 use core::cursor::ByteOrder;
@@ -8,7 +9,7 @@ ghost use Prim.Native.Nat.{_+_, _≤_};
 ghost use lib.ListN.{length};
 ghost use Rattle.core.specs.Bytes.{Room, Put, splice};
 ghost use Rattle.ui2d.specs.Floats.{valueOf, bitsOf};
-ghost use Rattle.ui2d.specs.Parts.{vector2Taken, vector3Taken, colorTaken, colorsTaken, quadTaken, encodeVector2, encodeVector3, encodeColor, encodeColors, encodeQuad};
+ghost use Rattle.ui2d.specs.Parts.{vector2Taken, vector3Taken, colorTaken, colorsTaken, encodeVector2, encodeVector3, encodeColor, encodeColors, encodeQuad};
 ghost use Rattle.ui2d.specs.Quads.{vectorAt, vectorBits, quadAt, quadBits};
 ghost use Rattle.ui2d.specs.Typed.{TypedVector2, TypedVector3, TypedColor, TypedColors, TypedQuad};
 
@@ -67,11 +68,6 @@ pub struct ColorTaken {
 // Of the corners: top left, top right, bottom left, bottom right.
 pub struct ColorsTaken {
     pub value: [Color4u8; 4],
-    pub then: Place,
-}
-
-pub struct QuadTaken {
-    pub value: Quad,
     pub then: Place,
 }
 
@@ -173,7 +169,8 @@ pub fn take_color(order: ByteOrder, data: &[u8], p: Place) -> ColorTaken
     }
 }
 
-pub fn take_colors(order: ByteOrder, data: &[u8], p: Place) -> ColorsTaken
+// Corner by corner.
+fn take_corners(order: ByteOrder, data: &[u8], p: Place) -> ColorsTaken
     ensures { λ r. ⌜ r ≡ colorsTaken order (now («data» .entry)) p ⌝ }
 {
     let tl = take_color(order, data, p);
@@ -192,29 +189,25 @@ pub fn take_colors(order: ByteOrder, data: &[u8], p: Place) -> ColorsTaken
     ColorsTaken { value, then }
 }
 
-pub fn take_quad(order: ByteOrder, data: &[u8], p: Place) -> QuadTaken
-    ensures { λ r. ⌜ r ≡ quadTaken order (now («data» .entry)) p ⌝ }
+// One test where all 16 bytes are there.
+pub fn take_colors(order: ByteOrder, data: &[u8], p: Place) -> ColorsTaken
+    ensures { λ r. ⌜ r ≡ colorsTaken order (now («data» .entry)) p ⌝ }
 {
-    let tl = take_vector2(order, data, p);
-    let p1 = tl.then;
-    let tr = take_vector2(order, data, p1);
-    let p2 = tr.then;
-    let bl = take_vector2(order, data, p2);
-    let p3 = bl.then;
-    let br = take_vector2(order, data, p3);
-    let then = br.then;
-    let top_left = tl.value;
-    let top_right = tr.value;
-    let bottom_left = bl.value;
-    let bottom_right = br.value;
-    QuadTaken {
-        value: Quad {
-            top_left,
-            top_right,
-            bottom_left,
-            bottom_right,
-        },
-        then,
+    match p {
+        Place::At(c) => {
+            let at = c.pos;
+            if at < data.len() {
+                if 16 <= data.len() - at {
+                    let value = fixed::colors_at(order, data, at);
+                    return ColorsTaken {
+                        value,
+                        then: Place::At(c.advanced(16)),
+                    };
+                }
+            }
+            take_corners(order, data, Place::At(c))
+        }
+        Place::Refused(why) => take_corners(order, data, Place::Refused(why)),
     }
 }
 

@@ -1,7 +1,6 @@
 // Quads between the bytes and a lent list of bits.
+use crate::fixed;
 use core::cursor::ByteOrder;
-use core::cursor::Cursor;
-use core::cursor::Place;
 ghost use mathlib.Core.Path.{_≡_};
 ghost use mathlib.Core.List.{_++_};
 ghost use Prim.Native.Nat.{_+_, _*_, _%_, _≤_};
@@ -16,9 +15,7 @@ pub fn fill_quads(order: ByteOrder, data: &[u8], at: usize, n: usize, list: &mut
 {
     let mut i = 0;
     while i < n {
-        let c = Cursor::start(at + 32 * i);
-        let taken = crate::take_quad(order, data, Place::At(c));
-        let quad = taken.value;
+        let quad = fixed::quad_at(order, data, at + 32 * i);
         crate::store_quad(list, 8 * i, quad);
         i += 1;
     }

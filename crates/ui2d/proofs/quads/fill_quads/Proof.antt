@@ -5,6 +5,10 @@ use borrow.Author.Needs.{needs}
 use native.Mathlib.Omega.{arith}
 use Rattle.ui2d.proofs.quads.fill_quads.Statement.{statement}
 use Rattle.ui2d.proofs.quads.fill_quads.Tie as tie
+use Rattle.ui2d.proofs.quads.fill_quads.Reads as reads
+use Rattle.ui2d.proofs.quads.fill_quads.Lts as lts
+use Rattle.ui2d.proofs.fixed.quad_at.Reads as quad-at-reads
+use Rattle.ui2d.proofs.store_quad.Reads as store-quad-reads
 
 abbrev Inv-loop : tie.InvT-loop
 Inv-loop order «data» at n list₀ i₀ list i = Filled order 4 «data» at (8 * n) list₀ list (8 * i)
@@ -15,17 +19,14 @@ abbrev μ-loop : tie.MeasureT-loop
 loop-holds : tie.Need-loop-holds Inv-loop μ-loop
 loop-holds c = filled-none _ 4 _ _ _ _
 
-mul-start : tie.Need-mul-start Inv-loop μ-loop
-mul-start c = search needs
+mul-quad-at : tie.Need-mul-quad-at Inv-loop μ-loop
+mul-quad-at c = search needs
 
-add-start : tie.Need-add-start Inv-loop μ-loop
-add-start c = search needs
+add-quad-at : tie.Need-add-quad-at Inv-loop μ-loop
+add-quad-at c = search needs
 
-start-requires : tie.Need-start-requires Inv-loop μ-loop
-start-requires c κs = search needs
-
-take-quad-requires : tie.Need-take-quad-requires Inv-loop μ-loop
-take-quad-requires c κs = search needs
+quad-at-requires : tie.Need-quad-at-requires Inv-loop μ-loop
+quad-at-requires c κs = search needs
 
 mul-store-quad : tie.Need-mul-store-quad Inv-loop μ-loop
 mul-store-quad c = search needs
@@ -41,8 +42,9 @@ loop-less c = search needs
 
 loop-again : tie.Need-loop-again Inv-loop μ-loop
 loop-again c =
-    let l = c .before .before .before .before .before .before .before .before in
-    let f = quad-filled _ _ _ _ _ _ _ (l .loop .inv) (c .before .before .before .before .before .before .before .loop-test .taken) (l .before .before .before .pre .0) (l .before .before .before .pre .1) _ (c .before .before .before .before .before .before .start .ensures) _ (c .before .before .before .before .before .take-quad .ensures) in
+    let q = c .before .before .before .before in
+    let l = q .before .before in
+    let f = quad-filled _ _ _ _ _ _ _ (l .loop .inv) (q .before .loop-test .taken) (l .before .before .before .pre .1) _ (q .quad-at .ensures) in
     rw (c .before .before .store-quad .ensures) f
 
 same-length : tie.Need-same-length Inv-loop μ-loop
@@ -58,10 +60,9 @@ fill-quads-spec =
     Inv-loop
     μ-loop
     loop-holds
-    mul-start
-    add-start
-    start-requires
-    take-quad-requires
+    mul-quad-at
+    add-quad-at
+    quad-at-requires
     mul-store-quad
     store-quad-requires
     add-i

@@ -1,4 +1,3 @@
-pub mod Names
 pub mod Run
 pub mod Cleared
 pub mod Calls

@@ -3,12 +3,12 @@ use crate::Pane;
 use core::cursor;
 use core::cursor::Place;
 use core::error::Refusal;
+use core::text;
 use core::text::FixedString8;
 use core::text::FixedString24;
 ghost use mathlib.Core.Path.{_≡_};
 ghost use Prim.Native.Nat.{_^_, _<_};
 ghost use lib.ListN.{length, take};
-ghost use Rattle.core.specs.Taken.{hasZero};
 ghost use Rattle.pane.specs.Checks.{nameIll, nameBad, namesChecked, reserveChecked, textsChecked};
 
 // The counted bytes of a name.
@@ -33,24 +33,12 @@ fn name_ill(bytes: &[u8], count: usize) -> bool
     !formed
 }
 
-// A byte that is 0 among the counted ones. Every byte is looked at, so that many can be compared at once.
-fn zero_before(bytes: &[u8], count: usize) -> bool
-    ensures { λ r. ⌜ r ≡ hasZero (take count (now (bytes .entry))) ⌝ }
-{
-    let mut zero = false;
-    let mut i = 0;
-    while i < bytes.len() {
-        zero = zero | ((i < count) & (bytes[i] == 0));
-        i += 1;
-    }
-    zero
-}
-
 // Over its width, with a NUL or ill-formed.
 fn name_bad(bytes: &[u8], count: usize) -> bool
     ensures { λ r. ⌜ r ≡ nameBad (length (now (bytes .entry))) (now (bytes .entry)) count ⌝ }
 {
-    let zero = zero_before(bytes, count);
+    let text = text_of(bytes, count);
+    let zero = text::has_zero(text);
     let ill = name_ill(bytes, count);
     (bytes.len() < count) | zero | ill
 }

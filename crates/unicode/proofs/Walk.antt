@@ -59,7 +59,7 @@ ascii-row : (b : ℕ) → b < 0x80 → rowOf table b ≡ row1 0x00 0x7F
 unfolding rowOf table
 ascii-row b h = rw (ascii-takes b h)
 
-ascii-one : (b : ℕ) (l : List ℕ) → b < 0x80 → sequence (b ∷ l) ≡ 1
+pub ascii-one : (b : ℕ) (l : List ℕ) → b < 0x80 → sequence (b ∷ l) ≡ 1
 unfolding fits
 ascii-one b l h = sequence-good (b ∷ l) (row1 0x00 0x7F) (ascii-row b h) (omega arith) (ascii-takes b h)
 

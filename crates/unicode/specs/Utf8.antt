@@ -94,3 +94,8 @@ asciiRun (b ∷ l) = cond (ltb b 0x80) (suc (asciiRun l)) 0
 -- where the run of ASCII bytes from a place ends
 abbrev pub asciiEnd : List ℕ → ℕ → ℕ
 asciiEnd s at = at + asciiRun (drop at s)
+
+-- whether every byte is ASCII
+unfoldable pub isAscii : List ℕ → Bool
+isAscii [] = true
+isAscii (b ∷ l) = ltb b 0x80 && isAscii l

@@ -2,7 +2,7 @@
 ghost use mathlib.Core.Path.{_≡_};
 ghost use Prim.Native.Nat.{_<_};
 ghost use lib.ListN.{length, drop};
-ghost use Rattle.unicode.specs.Utf8.{table, rowOf, sequence, asciiEnd, wellFormed};
+ghost use Rattle.unicode.specs.Utf8.{table, rowOf, sequence, asciiEnd, isAscii, wellFormed};
 
 // A row of the table: how many bytes, and the least and the greatest byte at each place.
 pub struct Row {
@@ -135,4 +135,17 @@ pub fn well_formed(s: &[u8]) -> bool
         at = ascii_end(s, at + n);
     }
     true
+}
+
+// No byte is 0x80 or above. Every byte is looked at, so that many can be compared at once.
+pub fn is_ascii(s: &[u8]) -> bool
+    ensures { λ r. ⌜ r ≡ isAscii (now (s .entry)) ⌝ }
+{
+    let mut high = false;
+    let mut i = 0;
+    while i < s.len() {
+        high = high | (0x80 <= s[i]);
+        i += 1;
+    }
+    !high
 }

@@ -1,4 +1,5 @@
 pub mod Run
+pub mod Here
 pub mod Cleared
 pub mod Calls
 pub mod Back

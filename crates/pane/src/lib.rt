@@ -17,10 +17,13 @@ use flags::position::BflytPosition;
 use ui2d::Binary32;
 use ui2d::Vector2f;
 use ui2d::Vector3f;
+use ui2d::fixed;
 ghost use mathlib.Core.Path.{_≡_};
 ghost use Prim.Native.Nat.{_+_, _≤_, _<_};
 ghost use lib.ListN.{length};
 ghost use Rattle.core.specs.Bytes.{Room, Put};
+ghost use Rattle.core.specs.Taken.{start};
+ghost use Rattle.core.specs.declared.cursor.Place.the-variants.{At};
 ghost use Rattle.pane.specs.Pane.{paneTaken, blankPane, encodeHead, encodeTransform, encodePane, Sound};
 ghost use Rattle.pane.specs.Typed.{TypedPane};
 
@@ -44,8 +47,8 @@ pub struct PaneTaken {
 
 // ---- reading
 
-// Where the run is refused the fields that were not reached are those of no bytes.
-pub fn take_pane(order: ByteOrder, data: &[u8], p: Place) -> PaneTaken
+// Field by field. Where the run is refused the fields that were not reached are those of no bytes.
+fn take_fields(order: ByteOrder, data: &[u8], p: Place) -> PaneTaken
     ensures { λ r. ⌜ r ≡ paneTaken order (now («data» .entry)) p ⌝ }
 {
     let flags = cursor::take_u8(order, data, p);
@@ -87,6 +90,57 @@ pub fn take_pane(order: ByteOrder, data: &[u8], p: Place) -> PaneTaken
         size: size_value,
     };
     PaneTaken { pane, then }
+}
+
+// The pane of the 76 bytes at a place.
+fn pane_at(order: ByteOrder, data: &[u8], at: usize) -> Pane
+    requires { ⌜ Room (now «data») at 76 ⌝ }
+    ensures { λ r. ⌜ r ≡ paneTaken order (now («data» .entry)) (At (start at)) .pane ⌝ }
+{
+    let flags = data[at];
+    let position = data[at + 1];
+    let alpha = data[at + 2];
+    let ex = data[at + 3];
+    let pane_name = text::string24_at(data, at + 4);
+    let user_name = text::string8_at(data, at + 28);
+    let translation = fixed::vector3_at(order, data, at + 36);
+    let rotation = fixed::vector3_at(order, data, at + 48);
+    let scale = fixed::vector2_at(order, data, at + 60);
+    let size = fixed::vector2_at(order, data, at + 68);
+    Pane {
+        pane_flags: PaneFlags::decode(flags),
+        position: BflytPosition::decode(position),
+        alpha,
+        flag_ex: PaneFlagsEx::decode(ex),
+        pane_name,
+        user_name,
+        translation,
+        rotation,
+        scale,
+        size,
+    }
+}
+
+// One test where all 76 bytes are there.
+pub fn take_pane(order: ByteOrder, data: &[u8], p: Place) -> PaneTaken
+    ensures { λ r. ⌜ r ≡ paneTaken order (now («data» .entry)) p ⌝ }
+{
+    match p {
+        Place::At(c) => {
+            let at = c.pos;
+            if at < data.len() {
+                if 76 <= data.len() - at {
+                    let pane = pane_at(order, data, at);
+                    return PaneTaken {
+                        pane,
+                        then: Place::At(c.advanced(76)),
+                    };
+                }
+            }
+            take_fields(order, data, Place::At(c))
+        }
+        Place::Refused(why) => take_fields(order, data, Place::Refused(why)),
+    }
 }
 
 fn zero2() -> Vector2f

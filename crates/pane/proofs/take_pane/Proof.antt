@@ -1,90 +1,55 @@
-use Rattle.pane.proofs.Run.{pane-run}
+use Rattle.pane.proofs.Here.{pane-got}
+use native.Mathlib.Omega.{arith}
 use borrow.Author.Needs.{needs}
 use Rattle.pane.proofs.take_pane.Statement.{statement}
 use Rattle.pane.proofs.take_pane.Tie as tie
 use Rattle.pane.proofs.take_pane.Reads as reads
 use Rattle.pane.proofs.take_pane.Lts as lts
-use Rattle.core.proofs.cursor.take_u8.Reads as take-u8-reads
-use Rattle.core.proofs.text.take_string24.Reads as take-string24-reads
-use Rattle.core.proofs.text.take_string8.Reads as take-string8-reads
-use Rattle.flags.proofs.pane.PaneFlags.decode.Reads as pane-PaneFlags-decode-reads
-use Rattle.flags.proofs.pane.PaneFlagsEx.decode.Reads as pane-PaneFlagsEx-decode-reads
-use Rattle.flags.proofs.position.BflytPosition.decode.Reads as position-BflytPosition-decode-reads
-use Rattle.ui2d.proofs.take_vector2.Reads as take-vector2-reads
-use Rattle.ui2d.proofs.take_vector3.Reads as take-vector3-reads
+use Rattle.core.proofs.cursor.Cursor.advanced.Reads as advanced-reads
+use Rattle.pane.proofs.pane_at.Reads as pane-at-reads
+use Rattle.pane.proofs.take_fields.Reads as take-fields-reads
 
-take-u8-requires : tie.Need-take-u8-requires
-take-u8-requires c κs = search needs
+enum-known-p : tie.Need-enum-known-p
+enum-known-p c = search needs
 
-take-u8-requires-2 : tie.Need-take-u8-requires-2
-take-u8-requires-2 c κs = search needs
+sub-if2 : tie.Need-sub-if2
+sub-if2 c = search needs
 
-take-u8-requires-3 : tie.Need-take-u8-requires-3
-take-u8-requires-3 c κs = search needs
+pane-at-requires : tie.Need-pane-at-requires
+pane-at-requires c κs = search needs
 
-take-u8-requires-4 : tie.Need-take-u8-requires-4
-take-u8-requires-4 c κs = search needs
-
-take-string24-requires : tie.Need-take-string24-requires
-take-string24-requires c κs = search needs
-
-take-string8-requires : tie.Need-take-string8-requires
-take-string8-requires c κs = search needs
-
-take-vector3-requires : tie.Need-take-vector3-requires
-take-vector3-requires c κs = search needs
-
-take-vector3-requires-2 : tie.Need-take-vector3-requires-2
-take-vector3-requires-2 c κs = search needs
-
-take-vector2-requires : tie.Need-take-vector2-requires
-take-vector2-requires c κs = search needs
-
-take-vector2-requires-2 : tie.Need-take-vector2-requires-2
-take-vector2-requires-2 c κs = search needs
-
-decode-requires : tie.Need-decode-requires
-decode-requires c κs = search needs
-
-decode-requires-2 : tie.Need-decode-requires-2
-decode-requires-2 c κs = search needs
-
-decode-requires-3 : tie.Need-decode-requires-3
-decode-requires-3 c κs = search needs
+advanced-requires : tie.Need-advanced-requires
+advanced-requires c κs = search needs
 
 returns : tie.Need-returns
-returns c =
-    pane-run _ _ _ _ _ _ _ _ _ _ _ _ _
-    (c .before .before .before .before .before .before .before .before .before .before .before .before .before .before .before .before .before .before .take-u8 .ensures)
-    (c .before .before .before .before .before .before .before .before .before .before .before .before .before .before .before .before .before .take-u82 .ensures)
-    (c .before .before .before .before .before .before .before .before .before .before .before .before .before .before .before .before .take-u83 .ensures)
-    (c .before .before .before .before .before .before .before .before .before .before .before .before .before .before .before .take-u84 .ensures)
-    (c .before .before .before .before .before .before .before .before .before .before .before .before .before .before .take-string24 .ensures)
-    (c .before .before .before .before .before .before .before .before .before .before .before .before .before .take-string8 .ensures)
-    (c .before .before .before .before .before .before .before .before .before .before .before .before .take-vector3 .ensures)
-    (c .before .before .before .before .before .before .before .before .before .before .before .take-vector32 .ensures)
-    (c .before .before .before .before .before .before .before .before .before .before .take-vector2 .ensures)
-    (c .before .before .before .before .before .before .before .before .before .take-vector22 .ensures)
-    _ _ _
-    (c .before .before .decode .ensures)
-    (c .before .decode2 .ensures)
-    (c .decode3 .ensures)
+returns c = pane-got _ _ _ _ _ (c .before .before .before .before .before .p .given .1) (c .advanced .ensures) (omega arith) _ (c .before .pane-at .ensures)
+
+take-fields-requires : tie.Need-take-fields-requires
+take-fields-requires c κs = search needs
+
+enum-known-p-2 : tie.Need-enum-known-p-2
+enum-known-p-2 c = search needs
+
+take-fields-requires-2 : tie.Need-take-fields-requires-2
+take-fields-requires-2 c κs = search needs
+
+returns-2 : tie.Need-returns-2
+returns-2 c = rw (c .before .before .before .p .given .1) (c .take-fields .ensures)
+
+returns-3 : tie.Need-returns-3
+returns-3 c = rw (c .before .before .p2 .given .1) (c .take-fields2 .ensures)
 
 pub take-pane-spec : {M : Type 1} → statement M
 take-pane-spec =
     tie.close
     (tie.spec
-    take-u8-requires
-    take-u8-requires-2
-    take-u8-requires-3
-    take-u8-requires-4
-    take-string24-requires
-    take-string8-requires
-    take-vector3-requires
-    take-vector3-requires-2
-    take-vector2-requires
-    take-vector2-requires-2
-    decode-requires
-    decode-requires-2
-    decode-requires-3
-    returns)
+    enum-known-p
+    sub-if2
+    pane-at-requires
+    advanced-requires
+    returns
+    take-fields-requires
+    enum-known-p-2
+    take-fields-requires-2
+    returns-2
+    returns-3)

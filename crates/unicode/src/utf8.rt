@@ -59,7 +59,8 @@ pub const TABLE_3_7: [Row; 9] = [
     },
 ];
 
-// The row whose first place takes b, or a row of no places.
+// The row whose first place takes b, or a row of no places. It is handed on field by field: the compiler then unrolls the
+// search, and copies no table to the stack.
 fn row_of(b: u8) -> Row
     ensures { λ r. ⌜ r ≡ rowOf table b ⌝ }
 {
@@ -69,7 +70,11 @@ fn row_of(b: u8) -> Row
         let low = row.low[0];
         let high = row.high[0];
         if (low <= b) & (b <= high) {
-            return row;
+            return Row {
+                count: row.count,
+                low: row.low,
+                high: row.high,
+            };
         }
         i += 1;
     }

@@ -33,10 +33,10 @@ element-copy-out-high c = search needs
 returns : tie.Need-returns Inv-loop μ-loop
 unfolding table takes
 returns c =
-    let l = c .before .before .before .before .before in
+    let l = c .before .before .before .before .before .before .before in
     let i = l .loop .i in
     let h : i < length table = omega arith in
-    sym (l .loop .inv .1 ∙ search-hit (l .before .args .b) i _ h (any-default table i _ noRow h) (c .if1 .taken))
+    sym (l .loop .inv .1 ∙ search-hit (l .before .args .b) i _ h (any-default table i _ noRow h) (c .before .before .if1 .taken))
 
 add-i : tie.Need-add-i Inv-loop μ-loop
 add-i c = search needs

@@ -1,6 +1,7 @@
 pub mod Below
 pub mod Cleared
 pub mod Steps
+pub mod WriteKinds
 pub mod Fixed
 pub mod BackKinds
 pub mod Back

@@ -7,15 +7,19 @@ use core::cursor::ByteOrder;
 use core::cursor::Cursor;
 use core::cursor::Place;
 use core::writer;
+use pane::Pane;
 use pane::checks::names_checked;
 use pane::checks::reserve_checked;
+ghost use mathlib.Core.List.{[], _++_};
 ghost use mathlib.Core.Path.{_≡_};
 ghost use Prim.Native.Nat.{_+_, _^_, _≤_, _<_};
 ghost use lib.ListN.{length};
-ghost use Rattle.core.specs.Bytes.{Room, Put};
-ghost use Rattle.core.specs.Checks.{endChecked};
+ghost use Rattle.core.specs.Bytes.{bytesOf, Room, Put};
+ghost use Rattle.core.specs.Checks.{sectionStart, endChecked};
 ghost use Rattle.pane.specs.Pane.{Sound};
-ghost use Rattle.strip.specs.Whole.{whole};
+ghost use Rattle.pane.specs.Checks.{namesChecked, reserveChecked};
+ghost use Rattle.strip.specs.Kinds.{letterBytes};
+ghost use Rattle.strip.specs.Whole.{whole, pan1};
 ghost use Rattle.strip.specs.Write.{GoodOwn, ownLengthChecked, ownNameChecked, ownChecked, sectionEnd, bodyLength, encodeBody, sectionSize, sizeOf, section, writeChecked, writeAnswer, writeOutput};
 
 // Header, body and padding of a body of n bytes.
@@ -24,6 +28,53 @@ fn section_size(n: usize) -> usize
     ensures { λ r. ⌜ r ≡ sectionSize n ⌝ }
 {
     8 + n + writer::padding_at(n)
+}
+
+// 1, 2, 9 of the names, and 10
+fn base_checked(base: Pane, length: usize, place: usize) -> Place
+    ensures { λ a. ⌜ a ≡ reserveChecked (namesChecked (sectionStart length place) base) base ⌝ }
+{
+    let p = checks::section_start(length, place);
+    let p = names_checked(p, base);
+    reserve_checked(p, base)
+}
+
+// 16, of a section with a body of n bytes.
+fn end_checked(p: Place, n: usize, length: usize, place: usize) -> Place
+    requires { ⌜ (n < 2 ^ 31) × ((c : Cursor) → p ≡ Place.At c → place ≤ 16777216) ⌝ }
+    ensures { λ a. ⌜ a ≡ endChecked p (place + sectionSize n) length ⌝ }
+{
+    let size = section_size(n);
+    checks::end_checked(p, place, size, length)
+}
+
+// Letters and size of a section with a body of n bytes.
+fn put_header(order: ByteOrder, out: &mut [u8], p: usize, kind: Kind, n: usize) -> usize
+    requires { ⌜ (n < 2 ^ 31) × Room (now out) p 8 ⌝ }
+    ensures { λ q. ⌜ Put (now (out .entry)) p 8 (letterBytes kind ++ bytesOf order 4 (sectionSize n)) q (now (out .exit)) ⌝ }
+{
+    let letters = kind.letters();
+    let size = section_size(n);
+    let q = writer::put_u32(ByteOrder::Little, out, p, letters);
+    writer::put_u32(order, out, q, size as u32)
+}
+
+// The section of a base pane at a place: checks 1, 2, 9, 10 and 16.
+pub fn write_pan1(order: ByteOrder, base: Pane, out: &mut [u8], place: usize) -> Written
+    ensures { λ a. ⌜ a ≡ writeAnswer (whole (pan1 base) [] [] [] [] []) (length (now (out .entry))) place ⌝ }
+    ensures { λ _. ⌜ now (out .exit) ≡ writeOutput order (whole (pan1 base) [] [] [] [] []) (now (out .entry)) place ⌝ }
+{
+    let length = out.len();
+    let p = base_checked(base, length, place);
+    let p = end_checked(p, 76, length, place);
+    match p {
+        Place::Refused(why) => Written::Refused(why),
+        Place::At(_) => {
+            let q = put_header(order, out, place, Kind::Pan1, 76);
+            let end = pane::put_pane(order, out, q, base);
+            Written::End(end)
+        }
+    }
 }
 
 // How many bytes the body has.

@@ -1,6 +1,7 @@
 // The section write.
 use crate::kind::Kind;
 use crate::record::Record;
+use alignment::AlignmentPane;
 use core::checks;
 use core::checks::Written;
 use core::cursor::ByteOrder;
@@ -10,16 +11,25 @@ use core::writer;
 use pane::Pane;
 use pane::checks::names_checked;
 use pane::checks::reserve_checked;
+use picture::PicturePane;
+use text_box::Label;
+use text_box::TextBoxPane;
+use text_box::checks::label_length_checked;
+use text_box::checks::label_name_checked;
+use window::WindowPane;
 ghost use mathlib.Core.List.{[], _++_};
 ghost use mathlib.Core.Path.{_≡_};
 ghost use Prim.Native.Nat.{_+_, _^_, _≤_, _<_};
 ghost use lib.ListN.{length};
 ghost use Rattle.core.specs.Bytes.{bytesOf, Room, Put};
-ghost use Rattle.core.specs.Checks.{sectionStart, endChecked};
+ghost use Rattle.core.specs.Taken.{start};
+ghost use Rattle.core.specs.Checks.{lengthChecked, sectionChecked, sectionStart, endChecked};
 ghost use Rattle.pane.specs.Pane.{Sound};
 ghost use Rattle.pane.specs.Checks.{namesChecked, reserveChecked};
+ghost use Rattle.text_box_read.specs.Parts.{labelPart};
+ghost use Rattle.text_box.specs.Checks.{labelLengthChecked, labelNameChecked};
 ghost use Rattle.strip.specs.Kinds.{letterBytes};
-ghost use Rattle.strip.specs.Whole.{whole, pan1};
+ghost use Rattle.strip.specs.Whole.{whole, pan1, pic1, txt1, wnd1, ali1};
 ghost use Rattle.strip.specs.Write.{GoodOwn, ownLengthChecked, ownNameChecked, ownChecked, sectionEnd, bodyLength, encodeBody, sectionSize, sizeOf, section, writeChecked, writeAnswer, writeOutput};
 
 // Header, body and padding of a body of n bytes.
@@ -36,6 +46,18 @@ fn base_checked(base: Pane, length: usize, place: usize) -> Place
 {
     let p = checks::section_start(length, place);
     let p = names_checked(p, base);
+    reserve_checked(p, base)
+}
+
+// The same with 1 and 9 of a label
+fn labelled_checked(base: Pane, label: Label, bytes: &[u8], length: usize, place: usize) -> Place
+    ensures { λ a. ⌜ a ≡ reserveChecked (labelNameChecked (namesChecked (sectionChecked (labelLengthChecked (lengthChecked (Place.At (start place)) length) (labelPart label (now (bytes .entry)))) length place) base) (labelPart label (now (bytes .entry)))) base ⌝ }
+{
+    let p = checks::length_checked(Place::At(Cursor::start(place)), length);
+    let p = label_length_checked(p, label, bytes);
+    let p = checks::section_checked(p, length, place);
+    let p = names_checked(p, base);
+    let p = label_name_checked(p, label, bytes);
     reserve_checked(p, base)
 }
 
@@ -72,6 +94,148 @@ pub fn write_pan1(order: ByteOrder, base: Pane, out: &mut [u8], place: usize) ->
         Place::At(_) => {
             let q = put_header(order, out, place, Kind::Pan1, 76);
             let end = pane::put_pane(order, out, q, base);
+            Written::End(end)
+        }
+    }
+}
+
+// Of a picture pane: 1, 2, 9, 10, 11 and 16.
+pub fn write_pic1(
+    order: ByteOrder,
+    base: Pane,
+    own: PicturePane,
+    quads: &[u32],
+    out: &mut [u8],
+    place: usize,
+) -> Written
+    ensures { λ a. ⌜ a ≡ writeAnswer (whole (pic1 base own) (now (quads .entry)) [] [] [] []) (length (now (out .entry))) place ⌝ }
+    ensures { λ _. ⌜ now (out .exit) ≡ writeOutput order (whole (pic1 base own) (now (quads .entry)) [] [] [] []) (now (out .entry)) place ⌝ }
+{
+    let length = out.len();
+    let p = base_checked(base, length, place);
+    let p = picture::picture_checked(p, quads);
+    match p {
+        Place::Refused(why) => Written::Refused(why),
+        Place::At(_) => {
+            let n = picture::body::body_length(own, quads);
+            let p = end_checked(p, n, length, place);
+            match p {
+                Place::Refused(why) => Written::Refused(why),
+                Place::At(_) => {
+                    let zeros = writer::padding_at(n);
+                    let q = put_header(order, out, place, Kind::Pic1, n);
+                    let q = picture::body::put_body(order, out, q, base, own, quads);
+                    let end = writer::put_zeros(out, q, zeros);
+                    Written::End(end)
+                }
+            }
+        }
+    }
+}
+
+// Of a text box: 1, 2, 9, 10, 11, 13, 14, 15 and 16.
+pub fn write_txt1(
+    order: ByteOrder,
+    base: Pane,
+    own: TextBoxPane,
+    units: &[u16],
+    lines: &[u32],
+    label: &[u8],
+    out: &mut [u8],
+    place: usize,
+) -> Written
+    ensures { λ a. ⌜ a ≡ writeAnswer (whole (txt1 base own) [] (now (units .entry)) (now (lines .entry)) [] (now (label .entry))) (length (now (out .entry))) place ⌝ }
+    ensures { λ _. ⌜ now (out .exit) ≡ writeOutput order (whole (txt1 base own) [] (now (units .entry)) (now (lines .entry)) [] (now (label .entry))) (now (out .entry)) place ⌝ }
+{
+    text_box::typed_text_box(own);
+    let length = out.len();
+    let name = own.label;
+    let p = labelled_checked(base, name, label, length, place);
+    let p = text_box::checks::text_box_checked(p, own, units, lines);
+    match p {
+        Place::Refused(why) => Written::Refused(why),
+        Place::At(_) => {
+            let body = place + 8;
+            let n = 76 + text_box::text_box_length(body, own, units, lines, label);
+            let p = end_checked(p, n, length, place);
+            match p {
+                Place::Refused(why) => Written::Refused(why),
+                Place::At(_) => {
+                    let zeros = writer::padding_at(n);
+                    put_header(order, out, place, Kind::Txt1, n);
+                    let q = text_box::body::put_body(
+                        order,
+                        out,
+                        body,
+                        base,
+                        own,
+                        units,
+                        lines,
+                        label,
+                    );
+                    let end = writer::put_zeros(out, q, zeros);
+                    Written::End(end)
+                }
+            }
+        }
+    }
+}
+
+// Of a window pane: 1, 2, 9, 10, 11, 12 and 16.
+pub fn write_wnd1(
+    order: ByteOrder,
+    base: Pane,
+    own: WindowPane,
+    quads: &[u32],
+    frames: &[u16],
+    out: &mut [u8],
+    place: usize,
+) -> Written
+    ensures { λ a. ⌜ a ≡ writeAnswer (whole (wnd1 base own) (now (quads .entry)) [] [] (now (frames .entry)) []) (length (now (out .entry))) place ⌝ }
+    ensures { λ _. ⌜ now (out .exit) ≡ writeOutput order (whole (wnd1 base own) (now (quads .entry)) [] [] (now (frames .entry)) []) (now (out .entry)) place ⌝ }
+{
+    let length = out.len();
+    let p = base_checked(base, length, place);
+    let p = window::window_checked(p, quads, frames);
+    match p {
+        Place::Refused(why) => Written::Refused(why),
+        Place::At(_) => {
+            let body = place + 8;
+            let n = 76 + window::window_length(body, quads.len(), frames.len());
+            let p = end_checked(p, n, length, place);
+            match p {
+                Place::Refused(why) => Written::Refused(why),
+                Place::At(_) => {
+                    let zeros = writer::padding_at(n);
+                    put_header(order, out, place, Kind::Wnd1, n);
+                    let q = window::body::put_body(order, out, body, base, own, quads, frames);
+                    let end = writer::put_zeros(out, q, zeros);
+                    Written::End(end)
+                }
+            }
+        }
+    }
+}
+
+// Of an alignment pane: 1, 2, 9, 10 and 16.
+pub fn write_ali1(
+    order: ByteOrder,
+    base: Pane,
+    own: AlignmentPane,
+    out: &mut [u8],
+    place: usize,
+) -> Written
+    ensures { λ a. ⌜ a ≡ writeAnswer (whole (ali1 base own) [] [] [] [] []) (length (now (out .entry))) place ⌝ }
+    ensures { λ _. ⌜ now (out .exit) ≡ writeOutput order (whole (ali1 base own) [] [] [] [] []) (now (out .entry)) place ⌝ }
+{
+    let length = out.len();
+    let p = base_checked(base, length, place);
+    let p = end_checked(p, 88, length, place);
+    match p {
+        Place::Refused(why) => Written::Refused(why),
+        Place::At(_) => {
+            let q = put_header(order, out, place, Kind::Ali1, 88);
+            let end = alignment::body::put_body(order, out, q, base, own);
             Written::End(end)
         }
     }

@@ -38,18 +38,14 @@ use Rattle.strip.specs.Kinds.{letterBytes}
 use Rattle.strip.specs.Whole.{Whole, whole, pan1, pic1, txt1, wnd1, ali1}
 use Rattle.strip.specs.Write.{GoodOwn, ownLengthChecked, ownNameChecked, ownChecked, bodyLength, encodeBody, sectionSize, sizeOf, section, sectionEnd, writeChecked, writeAnswer, writeOutput}
 use Rattle.strip.specs.declared.kind.Kind.the-variants.{Pan1, Pic1, Txt1, Wnd1, Ali1}
+use Rattle.strip.specs.declared.record.Record.{Record}
 use Rattle.strip.proofs.Cleared.{OwnGood, beforeEnd, checks-cleared, write-cleared}
-use Rattle.strip.proofs.Steps.{size-parts}
+use Rattle.strip.proofs.Steps.{room, size-parts}
 
 -- ---- any kind
 
 size-of : (m : ℕ) → 8 + (m + padding m) ≡ sectionSize m
-unfolding sectionSize
-size-of m = omega arith
-
-size-room : (m p n : ℕ) → p + sectionSize m ≤ n → p + 8 + m + padding m ≤ n
-unfolding sectionSize
-size-room m p n h = omega arith
+size-of m = omega (arith, size-parts m)
 
 module _ (w : Whole) (n p : ℕ) (q : Place) (e : q ≡ beforeEnd w n p) where
   -- the checks before 16 were passed
@@ -73,8 +69,8 @@ module _ (w : Whole) (n p : ℕ) (q : Place) (e : q ≡ beforeEnd w n p) where
   pub fits : (m : ℕ) (r : Place) → m ≡ bodyLength (w .pane .kind) (p + 8) w → r ≡ endChecked q (p + sectionSize m) n → (c : Cursor) → r ≡ At c
       → Sound (w .pane .base) × (p + 8 + m + padding m ≤ n)
   fits m r f g c h =
-      let (_, room) = end-cleared q _ n c (sym g ∙ h) in
-      (sound _ (write-cleared w n p c (sym (end-made m r f g) ∙ h) .good), size-room m p n room)
+      let (_, long) = end-cleared q _ n c (sym g ∙ h) in
+      (sound _ (write-cleared w n p c (sym (end-made m r f g) ∙ h) .good), room m p n long)
 
 -- refused: the answer, and the output as it was
 pub not-written : (order : ByteOrder) (w : Whole) (o : List ℕ) (p : ℕ) (r : Place) → r ≡ writeChecked w (length o) p → (why : Refusal) → r ≡ Refused why
@@ -177,3 +173,33 @@ module _ (order : ByteOrder) (base : Pane) {o o₁ o₂ o₃ : List ℕ} {p a b 
       → (Writtens.End z ≡ writeAnswer (whole (txt1 base own) [] units lines [] label) (length o) p) × (o₃ ≡ writeOutput order (whole (txt1 base own) [] units lines [] label) o p)
   unfolding encodeBody
   txt1-written own units lines label e f header body = written order (whole (txt1 base own) [] units lines [] label) m y r e c h f g header (put-at (sym (header .place)) body) zeros
+
+-- ---- what a kind lacks is not looked at
+
+abbrev pub SameWrite : ByteOrder → List ℕ → ℕ → Whole → Whole → Type 0
+SameWrite order o p w x = (writeAnswer w (length o) p ≡ writeAnswer x (length o) p) × (writeOutput order w o p ≡ writeOutput order x o p)
+
+pub alone : (order : ByteOrder) (o : List ℕ) (p : ℕ) (w x : Whole) {o₁ : List ℕ} {a : Written} → SameWrite order o p w x
+    → (a ≡ writeAnswer w (length o) p) × (o₁ ≡ writeOutput order w o p) → (a ≡ writeAnswer x (length o) p) × (o₁ ≡ writeOutput order x o p)
+alone order o p w x h k = (k .0 ∙ h .0, k .1 ∙ h .1)
+
+module _ (order : ByteOrder) (o : List ℕ) (p : ℕ) (x : Record) (quads units lines frames label : List ℕ) where
+  pub pan1-alone : x .kind ≡ Pan1 → SameWrite order o p (whole (pan1 (x .base)) [] [] [] [] []) (whole x quads units lines frames label)
+  unfolding writeAnswer writeOutput writeChecked ownLengthChecked ownNameChecked ownChecked section encodeBody
+  pan1-alone e = rw e (refl, refl)
+
+  pub pic1-alone : x .kind ≡ Pic1 → SameWrite order o p (whole (pic1 (x .base) (x .picture)) quads [] [] [] []) (whole x quads units lines frames label)
+  unfolding writeAnswer writeOutput writeChecked ownLengthChecked ownNameChecked ownChecked section encodeBody
+  pic1-alone e = rw e (refl, refl)
+
+  pub txt1-alone : x .kind ≡ Txt1 → SameWrite order o p (whole (txt1 (x .base) (x .«text_box»)) [] units lines [] label) (whole x quads units lines frames label)
+  unfolding writeAnswer writeOutput writeChecked ownLengthChecked ownNameChecked ownChecked section encodeBody
+  txt1-alone e = rw e (refl, refl)
+
+  pub wnd1-alone : x .kind ≡ Wnd1 → SameWrite order o p (whole (wnd1 (x .base) (x .window)) quads [] [] frames []) (whole x quads units lines frames label)
+  unfolding writeAnswer writeOutput writeChecked ownLengthChecked ownNameChecked ownChecked section encodeBody
+  wnd1-alone e = rw e (refl, refl)
+
+  pub ali1-alone : x .kind ≡ Ali1 → SameWrite order o p (whole (ali1 (x .base) (x .alignment)) [] [] [] [] []) (whole x quads units lines frames label)
+  unfolding writeAnswer writeOutput writeChecked ownLengthChecked ownNameChecked ownChecked section encodeBody
+  ali1-alone e = rw e (refl, refl)

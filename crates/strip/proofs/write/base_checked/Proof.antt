@@ -7,19 +7,15 @@ use Rattle.core.proofs.checks.section_start.Reads as section-start-reads
 use Rattle.pane.proofs.checks.names_checked.Reads as names-checked-reads
 use Rattle.pane.proofs.checks.reserve_checked.Reads as reserve-checked-reads
 
--- src/write.rt:37:9
 section-start-requires : tie.Need-section-start-requires
 section-start-requires c κs = search needs
 
--- src/write.rt:38:9
 names-checked-requires : tie.Need-names-checked-requires
 names-checked-requires c κs = search needs
 
--- src/write.rt:39:5
 reserve-checked-requires : tie.Need-reserve-checked-requires
 reserve-checked-requires c κs = search needs
 
--- src/write.rt:34:1
 returns : tie.Need-returns
 returns c = rw (c .reserve-checked .ensures, c .before .names-checked .ensures, c .before .before .section-start .ensures)
 

@@ -8,15 +8,12 @@ use Rattle.strip.proofs.write.end_checked.Lts as lts
 use Rattle.core.proofs.checks.end_checked.Reads as end-checked-reads
 use Rattle.strip.proofs.write.section_size.Reads as section-size-reads
 
--- src/write.rt:47:9
 section-size-requires : tie.Need-section-size-requires
 section-size-requires c κs = search needs
 
--- src/write.rt:48:5
 end-checked-requires : tie.Need-end-checked-requires
 end-checked-requires c κs = λ x h. omega (arith, c .before .pre .1 x h, c .section-size .ensures, size-bound (c .before .args .n), c .before .pre .0)
 
--- src/write.rt:43:1
 returns : tie.Need-returns
 returns c = rw (c .end-checked .ensures, c .before .section-size .ensures)
 

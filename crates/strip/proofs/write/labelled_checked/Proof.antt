@@ -11,35 +11,27 @@ use Rattle.pane.proofs.checks.reserve_checked.Reads as reserve-checked-reads
 use Rattle.text_box.proofs.checks.label_length_checked.Reads as label-length-checked-reads
 use Rattle.text_box.proofs.checks.label_name_checked.Reads as label-name-checked-reads
 
--- src/write.rt:56:46
 start-requires : tie.Need-start-requires
 start-requires c κs = search needs
 
--- src/write.rt:56:9
 length-checked-requires : tie.Need-length-checked-requires
 length-checked-requires c κs = search needs
 
--- src/write.rt:57:9
 label-length-checked-requires : tie.Need-label-length-checked-requires
 label-length-checked-requires c κs = search needs
 
--- src/write.rt:58:9
 section-checked-requires : tie.Need-section-checked-requires
 section-checked-requires c κs = search needs
 
--- src/write.rt:59:9
 names-checked-requires : tie.Need-names-checked-requires
 names-checked-requires c κs = search needs
 
--- src/write.rt:60:9
 label-name-checked-requires : tie.Need-label-name-checked-requires
 label-name-checked-requires c κs = search needs
 
--- src/write.rt:61:5
 reserve-checked-requires : tie.Need-reserve-checked-requires
 reserve-checked-requires c κs = search needs
 
--- src/write.rt:53:1
 returns : tie.Need-returns
 returns c = rw (c .reserve-checked .ensures, c .before .label-name-checked .ensures, c .before .before .names-checked .ensures, c .before .before .before .section-checked .ensures, c .before .before .before .before .label-length-checked .ensures, c .before .before .before .before .before .length-checked .ensures, c .before .before .before .before .before .before .start .ensures)
 

@@ -13,31 +13,24 @@ use Rattle.core.proofs.writer.put_u32.Reads as put-u32-reads
 use Rattle.strip.proofs.kind.Kind.letters.Reads as letters-reads
 use Rattle.strip.proofs.write.section_size.Reads as section-size-reads
 
--- src/write.rt:56:9
 letters-requires : tie.Need-letters-requires
 letters-requires c κs = search needs
 
--- src/write.rt:57:9
 section-size-requires : tie.Need-section-size-requires
 section-size-requires c κs = search needs
 
--- src/write.rt:58:9
 put-u32-requires : tie.Need-put-u32-requires
 put-u32-requires c κs = search needs
 
--- src/write.rt:59:36
 cast-put-u32 : tie.Need-cast-put-u32
 cast-put-u32 c = omega (arith, c .before .before .before .before .before .section-size .ensures, size-bound (c .before .before .before .before .before .before .before .before .args .n), c .before .before .before .before .before .before .before .before .pre .0)
 
--- src/write.rt:59:5
 put-u32-requires-2 : tie.Need-put-u32-requires-2
 put-u32-requires-2 c κs = search needs
 
--- src/write.rt:52:1
 same-length : tie.Need-same-length
 same-length c = search needs
 
--- src/write.rt:52:1
 returns : tie.Need-returns
 returns c =
     put-as refl refl

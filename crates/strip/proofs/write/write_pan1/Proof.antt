@@ -13,39 +13,30 @@ use Rattle.strip.proofs.write.base_checked.Reads as base-checked-reads
 use Rattle.strip.proofs.write.end_checked.Reads as end-checked-reads
 use Rattle.strip.proofs.write.put_header.Reads as put-header-reads
 
--- src/write.rt:68:9
 base-checked-requires : tie.Need-base-checked-requires
 base-checked-requires c κs = search needs
 
--- src/write.rt:69:9
 end-checked-requires : tie.Need-end-checked-requires
 end-checked-requires c κs = (omega arith, place-small (whole (pan1 _) [] [] [] [] []) _ _ _ (pan1-checks _ _ _ _ (c .base-checked .ensures)))
 
--- src/write.rt:71:24
 enum-known-p : tie.Need-enum-known-p
 enum-known-p c = search needs
 
--- src/write.rt:73:39
 enum-told : tie.Need-enum-told
 enum-told c = search needs
 
--- src/write.rt:73:17
 put-header-requires : tie.Need-put-header-requires
 put-header-requires c κs = let (_, room) = fits (whole (pan1 _) [] [] [] [] []) _ _ _ (pan1-checks _ _ _ _ (c .before .before .before .before .base-checked .ensures)) 76 _ refl (c .before .before .before .end-checked .ensures) _ (c .before .enum-told .given .1) in (omega arith, omega (arith, room))
 
--- src/write.rt:74:17
 put-pane-requires : tie.Need-put-pane-requires
 put-pane-requires c κs = let (sound, room) = fits (whole (pan1 _) [] [] [] [] []) _ _ _ (pan1-checks _ _ _ _ (c .before .before .before .before .before .before .before .before .base-checked .ensures)) 76 _ refl (c .before .before .before .before .before .before .before .end-checked .ensures) _ (c .before .before .before .before .before .enum-told .given .1) in (sound, omega (arith, room, c .before .before .before .put-header .ensures .place))
 
--- src/write.rt:63:1
 returns : tie.Need-returns
 returns c = not-written _ (whole (pan1 _) [] [] [] [] []) _ _ _ (end-made (whole (pan1 _) [] [] [] [] []) _ _ _ (pan1-checks _ _ _ _ (c .before .before .before .before .base-checked .ensures)) 76 _ refl (c .before .before .before .end-checked .ensures)) _ (c .before .p .given .1)
 
--- src/write.rt:63:1
 same-length : tie.Need-same-length
 same-length c = search needs
 
--- src/write.rt:63:1
 returns-2 : tie.Need-returns-2
 returns-2 c = pan1-written _ _ _ _ (c .before .before .before .before .before .before .before .before .enum-told .given .1) (end-made (whole (pan1 _) [] [] [] [] []) _ _ _ (pan1-checks _ _ _ _ (c .before .before .before .before .before .before .before .before .before .before .before .base-checked .ensures)) 76 _ refl (c .before .before .before .before .before .before .before .before .before .before .end-checked .ensures)) (c .before .before .before .before .before .before .put-header .ensures) (c .before .before .put-pane .ensures)
 

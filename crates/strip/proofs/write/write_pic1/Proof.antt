@@ -17,67 +17,51 @@ use Rattle.strip.proofs.write.base_checked.Reads as base-checked-reads
 use Rattle.strip.proofs.write.end_checked.Reads as end-checked-reads
 use Rattle.strip.proofs.write.put_header.Reads as put-header-reads
 
--- src/write.rt:115:9
 base-checked-requires : tie.Need-base-checked-requires
 base-checked-requires c κs = search needs
 
--- src/write.rt:116:9
 picture-checked-requires : tie.Need-picture-checked-requires
 picture-checked-requires c κs = search needs
 
--- src/write.rt:118:24
 enum-known-p : tie.Need-enum-known-p
 enum-known-p c = search needs
 
--- src/write.rt:120:17
 enum-told : tie.Need-enum-told
 enum-told c = search needs
 
--- src/write.rt:120:17
 body-length-requires : tie.Need-body-length-requires
 body-length-requires c κs = let own = c .before .before .before .before .before .before .args .own in pic1-good _ _ _ _ _ (c .enum-told .given .1) own _ (pic1-checks _ _ _ _ (c .before .before .before .base-checked .ensures) own _ _ (c .before .before .picture-checked .ensures))
 
--- src/write.rt:121:17
 end-checked-requires : tie.Need-end-checked-requires
 end-checked-requires c κs = let own = c .before .before .before .before .before .before .before .args .own in (omega (arith, c .body-length .ensures, body-short own _ (pic1-good _ _ _ _ _ (c .before .enum-told .given .1) own _ (pic1-checks _ _ _ _ (c .before .before .before .before .base-checked .ensures) own _ _ (c .before .before .before .picture-checked .ensures)))), place-small (whole (pic1 _ own) _ [] [] [] []) _ _ _ (pic1-checks _ _ _ _ (c .before .before .before .before .base-checked .ensures) own _ _ (c .before .before .before .picture-checked .ensures)))
 
--- src/write.rt:123:32
 enum-known-p-2 : tie.Need-enum-known-p-2
 enum-known-p-2 c = search needs
 
--- src/write.rt:125:25
 enum-told-2 : tie.Need-enum-told-2
 enum-told-2 c = search needs
 
--- src/write.rt:125:25
 padding-at-requires : tie.Need-padding-at-requires
 padding-at-requires c κs = search needs
 
--- src/write.rt:126:25
 put-header-requires : tie.Need-put-header-requires
 put-header-requires c κs = let own = c .before .before .before .before .before .before .before .before .before .before .before .before .args .own in let (_, room) = fits (whole (pic1 _ own) _ [] [] [] []) _ _ _ (pic1-checks _ _ _ _ (c .before .before .before .before .before .before .before .before .before .base-checked .ensures) own _ _ (c .before .before .before .before .before .before .before .before .picture-checked .ensures)) _ _ (c .before .before .before .before .before .body-length .ensures) (c .before .before .before .before .end-checked .ensures) _ (c .before .before .enum-told2 .given .1) in (omega (arith, c .before .before .before .before .before .body-length .ensures, body-short own _ (pic1-good _ _ _ _ _ (c .before .before .before .before .before .before .enum-told .given .1) own _ (pic1-checks _ _ _ _ (c .before .before .before .before .before .before .before .before .before .base-checked .ensures) own _ _ (c .before .before .before .before .before .before .before .before .picture-checked .ensures)))), omega (arith, room))
 
--- src/write.rt:127:25
 put-body-requires : tie.Need-put-body-requires
 put-body-requires c κs = let own = c .before .before .before .before .before .before .before .before .before .before .before .before .before .before .before .before .args .own in let (sound, room) = fits (whole (pic1 _ own) _ [] [] [] []) _ _ _ (pic1-checks _ _ _ _ (c .before .before .before .before .before .before .before .before .before .before .before .before .before .base-checked .ensures) own _ _ (c .before .before .before .before .before .before .before .before .before .before .before .before .picture-checked .ensures)) _ _ (c .before .before .before .before .before .before .before .before .before .body-length .ensures) (c .before .before .before .before .before .before .before .before .end-checked .ensures) _ (c .before .before .before .before .before .before .enum-told2 .given .1) in (sound, pic1-good _ _ _ _ _ (c .before .before .before .before .before .before .before .before .before .before .enum-told .given .1) own _ (pic1-checks _ _ _ _ (c .before .before .before .before .before .before .before .before .before .before .before .before .before .base-checked .ensures) own _ _ (c .before .before .before .before .before .before .before .before .before .before .before .before .picture-checked .ensures)), omega (arith, room, c .before .before .before .before .before .before .before .before .before .body-length .ensures, c .before .before .before .put-header .ensures .place))
 
--- src/write.rt:128:25
 put-zeros-requires : tie.Need-put-zeros-requires
 put-zeros-requires c κs = let own = c .before .before .before .before .before .before .before .before .before .before .before .before .before .before .before .before .before .before .before .before .args .own in let (_, room) = fits (whole (pic1 _ own) _ [] [] [] []) _ _ _ (pic1-checks _ _ _ _ (c .before .before .before .before .before .before .before .before .before .before .before .before .before .before .before .before .before .base-checked .ensures) own _ _ (c .before .before .before .before .before .before .before .before .before .before .before .before .before .before .before .before .picture-checked .ensures)) _ _ (c .before .before .before .before .before .before .before .before .before .before .before .before .before .body-length .ensures) (c .before .before .before .before .before .before .before .before .before .before .before .before .end-checked .ensures) _ (c .before .before .before .before .before .before .before .before .before .before .enum-told2 .given .1) in omega (arith, room, c .before .before .before .before .before .before .before .before .before .before .before .before .before .body-length .ensures, c .before .before .before .before .before .before .before .before .before .padding-at .ensures, c .before .before .before .before .before .before .before .put-header .ensures .place, c .before .before .before .put-body .ensures .place)
 
--- src/write.rt:103:1
 returns : tie.Need-returns
 returns c = let own = c .before .before .before .before .before .before .before .args .own in not-written _ (whole (pic1 _ own) _ [] [] [] []) _ _ _ (stopped (whole (pic1 _ own) _ [] [] [] []) _ _ _ (pic1-checks _ _ _ _ (c .before .before .before .before .base-checked .ensures) own _ _ (c .before .before .before .picture-checked .ensures)) _ (c .before .p .given .1)) _ (c .before .p .given .1)
 
--- src/write.rt:103:1
 returns-2 : tie.Need-returns-2
 returns-2 c = let own = c .before .before .before .before .before .before .before .before .before .before .before .args .own in not-written _ (whole (pic1 _ own) _ [] [] [] []) _ _ _ (end-made (whole (pic1 _ own) _ [] [] [] []) _ _ _ (pic1-checks _ _ _ _ (c .before .before .before .before .before .before .before .before .base-checked .ensures) own _ _ (c .before .before .before .before .before .before .before .picture-checked .ensures)) _ _ (c .before .before .before .before .body-length .ensures) (c .before .before .before .end-checked .ensures)) _ (c .before .p2 .given .1)
 
--- src/write.rt:103:1
 same-length : tie.Need-same-length
 same-length c = search needs
 
--- src/write.rt:103:1
 returns-3 : tie.Need-returns-3
 returns-3 c = let own = c .before .before .before .before .before .before .before .before .before .before .before .before .before .before .before .before .before .before .before .before .before .before .before .args .own in pic1-written _ _ _ _ _ _ (c .before .before .before .before .before .before .before .before .before .before .before .before .before .enum-told2 .given .1) (c .before .before .before .before .before .before .before .before .before .before .before .before .padding-at .ensures) (c .before .before .put-zeros .ensures) own _ (end-made (whole (pic1 _ own) _ [] [] [] []) _ _ _ (pic1-checks _ _ _ _ (c .before .before .before .before .before .before .before .before .before .before .before .before .before .before .before .before .before .before .before .before .base-checked .ensures) own _ _ (c .before .before .before .before .before .before .before .before .before .before .before .before .before .before .before .before .before .before .before .picture-checked .ensures)) _ _ (c .before .before .before .before .before .before .before .before .before .before .before .before .before .before .before .before .body-length .ensures) (c .before .before .before .before .before .before .before .before .before .before .before .before .before .before .before .end-checked .ensures)) (c .before .before .before .before .before .before .before .before .before .before .before .before .before .before .before .before .body-length .ensures) (c .before .before .before .before .before .before .before .before .before .before .put-header .ensures) (c .before .before .before .before .before .before .put-body .ensures)
 

@@ -19,79 +19,60 @@ use Rattle.text_box.proofs.checks.text_box_checked.Reads as text-box-checked-re
 use Rattle.text_box_read.proofs.typed_text_box.Reads as typed-text-box-reads
 use Rattle.text_box_write.proofs.write.text_box_length.Reads as text-box-length-reads
 
--- src/write.rt:150:5
 typed-text-box-requires : tie.Need-typed-text-box-requires
 typed-text-box-requires c κs = search needs
 
--- src/write.rt:153:9
 labelled-checked-requires : tie.Need-labelled-checked-requires
 labelled-checked-requires c κs = search needs
 
--- src/write.rt:154:9
 text-box-checked-requires : tie.Need-text-box-checked-requires
 text-box-checked-requires c κs = search needs
 
--- src/write.rt:156:24
 enum-known-p : tie.Need-enum-known-p
 enum-known-p c = search needs
 
--- src/write.rt:158:24
 enum-told : tie.Need-enum-told
 enum-told c = search needs
 
--- src/write.rt:158:24
 add-body : tie.Need-add-body
 add-body c = let own = c .before .before .before .before .before .before .before .before .before .args .own in let label = c .before .before .before .before .before .before .before .before .before .args .label .now in omega (arith, place-small (whole (txt1 _ own) [] _ _ [] label) _ _ _ (txt1-checks _ own _ _ label _ _ _ _ (c .before .before .before .labelled-checked .ensures) (c .before .before .text-box-checked .ensures)) _ (c .enum-told .given .1))
 
--- src/write.rt:159:26
 text-box-length-requires : tie.Need-text-box-length-requires
 text-box-length-requires c κs = let own = c .before .before .before .before .before .before .before .before .before .args .own in let label = c .before .before .before .before .before .before .before .before .before .args .label .now in (omega arith, omega (arith, place-small (whole (txt1 _ own) [] _ _ [] label) _ _ _ (txt1-checks _ own _ _ label _ _ _ _ (c .before .before .before .labelled-checked .ensures) (c .before .before .text-box-checked .ensures)) _ (c .enum-told .given .1)), txt1-good _ _ _ _ _ (c .enum-told .given .1) own _ _ label (txt1-checks _ own _ _ label _ _ _ _ (c .before .before .before .labelled-checked .ensures) (c .before .before .text-box-checked .ensures)) (c .before .before .before .before .typed-text-box .ensures .long))
 
--- src/write.rt:159:21
 add-n : tie.Need-add-n
 add-n c = search needs
 
--- src/write.rt:160:17
 end-checked-requires : tie.Need-end-checked-requires
 end-checked-requires c κs = let own = c .before .before .before .before .before .before .before .before .before .before .args .own in let label = c .before .before .before .before .before .before .before .before .before .before .args .label .now in (omega (arith, c .text-box-length .ensures .1), place-small (whole (txt1 _ own) [] _ _ [] label) _ _ _ (txt1-checks _ own _ _ label _ _ _ _ (c .before .before .before .before .labelled-checked .ensures) (c .before .before .before .text-box-checked .ensures)))
 
--- src/write.rt:162:32
 enum-known-p-2 : tie.Need-enum-known-p-2
 enum-known-p-2 c = search needs
 
--- src/write.rt:164:25
 enum-told-2 : tie.Need-enum-told-2
 enum-told-2 c = search needs
 
--- src/write.rt:164:25
 padding-at-requires : tie.Need-padding-at-requires
 padding-at-requires c κs = search needs
 
--- src/write.rt:165:21
 put-header-requires : tie.Need-put-header-requires
 put-header-requires c κs = let own = c .before .before .before .before .before .before .before .before .before .before .before .before .before .before .before .args .own in let label = c .before .before .before .before .before .before .before .before .before .before .before .before .before .before .before .args .label .now in let (_, room) = fits (whole (txt1 _ own) [] _ _ [] label) _ _ _ (txt1-checks _ own _ _ label _ _ _ _ (c .before .before .before .before .before .before .before .before .before .labelled-checked .ensures) (c .before .before .before .before .before .before .before .before .text-box-checked .ensures)) _ _ (ap (λ (x : ℕ). 76 + x) (c .before .before .before .before .before .text-box-length .ensures .0)) (c .before .before .before .before .end-checked .ensures) _ (c .before .before .enum-told2 .given .1) in (omega (arith, c .before .before .before .before .before .text-box-length .ensures .1), omega (arith, room))
 
--- src/write.rt:166:25
 put-body-requires : tie.Need-put-body-requires
 put-body-requires c κs = let own = c .before .before .before .before .before .before .before .before .before .before .before .before .before .before .before .before .before .before .before .args .own in let label = c .before .before .before .before .before .before .before .before .before .before .before .before .before .before .before .before .before .before .before .args .label .now in let (sound, room) = fits (whole (txt1 _ own) [] _ _ [] label) _ _ _ (txt1-checks _ own _ _ label _ _ _ _ (c .before .before .before .before .before .before .before .before .before .before .before .before .before .labelled-checked .ensures) (c .before .before .before .before .before .before .before .before .before .before .before .before .text-box-checked .ensures)) _ _ (ap (λ (x : ℕ). 76 + x) (c .before .before .before .before .before .before .before .before .before .text-box-length .ensures .0)) (c .before .before .before .before .before .before .before .before .end-checked .ensures) _ (c .before .before .before .before .before .before .enum-told2 .given .1) in (sound, omega arith, omega (arith, place-small (whole (txt1 _ own) [] _ _ [] label) _ _ _ (txt1-checks _ own _ _ label _ _ _ _ (c .before .before .before .before .before .before .before .before .before .before .before .before .before .labelled-checked .ensures) (c .before .before .before .before .before .before .before .before .before .before .before .before .text-box-checked .ensures)) _ (c .before .before .before .before .before .before .before .before .before .before .enum-told .given .1)), txt1-good _ _ _ _ _ (c .before .before .before .before .before .before .before .before .before .before .enum-told .given .1) own _ _ label (txt1-checks _ own _ _ label _ _ _ _ (c .before .before .before .before .before .before .before .before .before .before .before .before .before .labelled-checked .ensures) (c .before .before .before .before .before .before .before .before .before .before .before .before .text-box-checked .ensures)) (c .before .before .before .before .before .before .before .before .before .before .before .before .before .before .typed-text-box .ensures .long), omega (arith, room, c .before .before .before .before .before .before .before .before .before .text-box-length .ensures .0))
 
--- src/write.rt:176:25
 put-zeros-requires : tie.Need-put-zeros-requires
 put-zeros-requires c κs = let own = c .before .before .before .before .before .before .before .before .before .before .before .before .before .before .before .before .before .before .before .before .before .before .before .args .own in let label = c .before .before .before .before .before .before .before .before .before .before .before .before .before .before .before .before .before .before .before .before .before .before .before .args .label .now in let (_, room) = fits (whole (txt1 _ own) [] _ _ [] label) _ _ _ (txt1-checks _ own _ _ label _ _ _ _ (c .before .before .before .before .before .before .before .before .before .before .before .before .before .before .before .before .before .labelled-checked .ensures) (c .before .before .before .before .before .before .before .before .before .before .before .before .before .before .before .before .text-box-checked .ensures)) _ _ (ap (λ (x : ℕ). 76 + x) (c .before .before .before .before .before .before .before .before .before .before .before .before .before .text-box-length .ensures .0)) (c .before .before .before .before .before .before .before .before .before .before .before .before .end-checked .ensures) _ (c .before .before .before .before .before .before .before .before .before .before .enum-told2 .given .1) in omega (arith, room, c .before .before .before .before .before .before .before .before .before .before .before .before .before .text-box-length .ensures .0, c .before .before .before .before .before .before .before .before .before .padding-at .ensures, c .before .before .before .put-body .ensures .place)
 
--- src/write.rt:137:1
 returns : tie.Need-returns
 returns c = let own = c .before .before .before .before .before .before .before .before .before .before .args .own in let label = c .before .before .before .before .before .before .before .before .before .before .args .label .now in not-written _ (whole (txt1 _ own) [] _ _ [] label) _ _ _ (stopped (whole (txt1 _ own) [] _ _ [] label) _ _ _ (txt1-checks _ own _ _ label _ _ _ _ (c .before .before .before .before .labelled-checked .ensures) (c .before .before .before .text-box-checked .ensures)) _ (c .before .p .given .1)) _ (c .before .p .given .1)
 
--- src/write.rt:137:1
 returns-2 : tie.Need-returns-2
 returns-2 c = let own = c .before .before .before .before .before .before .before .before .before .before .before .before .before .before .args .own in let label = c .before .before .before .before .before .before .before .before .before .before .before .before .before .before .args .label .now in not-written _ (whole (txt1 _ own) [] _ _ [] label) _ _ _ (end-made (whole (txt1 _ own) [] _ _ [] label) _ _ _ (txt1-checks _ own _ _ label _ _ _ _ (c .before .before .before .before .before .before .before .before .labelled-checked .ensures) (c .before .before .before .before .before .before .before .text-box-checked .ensures)) _ _ (ap (λ (x : ℕ). 76 + x) (c .before .before .before .before .text-box-length .ensures .0)) (c .before .before .before .end-checked .ensures)) _ (c .before .p2 .given .1)
 
--- src/write.rt:137:1
 same-length : tie.Need-same-length
 same-length c = search needs
 
--- src/write.rt:137:1
 returns-3 : tie.Need-returns-3
 returns-3 c = let own = c .before .before .before .before .before .before .before .before .before .before .before .before .before .before .before .before .before .before .before .before .before .before .before .before .before .before .args .own in let label = c .before .before .before .before .before .before .before .before .before .before .before .before .before .before .before .before .before .before .before .before .before .before .before .before .before .before .args .label .now in txt1-written _ _ _ _ _ _ (c .before .before .before .before .before .before .before .before .before .before .before .before .before .enum-told2 .given .1) (c .before .before .before .before .before .before .before .before .before .before .before .before .padding-at .ensures) (c .before .before .put-zeros .ensures) own _ _ label (end-made (whole (txt1 _ own) [] _ _ [] label) _ _ _ (txt1-checks _ own _ _ label _ _ _ _ (c .before .before .before .before .before .before .before .before .before .before .before .before .before .before .before .before .before .before .before .before .labelled-checked .ensures) (c .before .before .before .before .before .before .before .before .before .before .before .before .before .before .before .before .before .before .before .text-box-checked .ensures)) _ _ (ap (λ (x : ℕ). 76 + x) (c .before .before .before .before .before .before .before .before .before .before .before .before .before .before .before .before .text-box-length .ensures .0)) (c .before .before .before .before .before .before .before .before .before .before .before .before .before .before .before .end-checked .ensures)) (ap (λ (x : ℕ). 76 + x) (c .before .before .before .before .before .before .before .before .before .before .before .before .before .before .before .before .text-box-length .ensures .0)) (c .before .before .before .before .before .before .before .before .before .before .put-header .ensures) (c .before .before .before .before .before .before .put-body .ensures)
 

@@ -16,75 +16,57 @@ use Rattle.window.proofs.body.put_body.Reads as put-body-reads
 use Rattle.window_write.proofs.write.window_checked.Reads as window-checked-reads
 use Rattle.window_write.proofs.write.window_length.Reads as window-length-reads
 
--- src/write.rt:197:9
 base-checked-requires : tie.Need-base-checked-requires
 base-checked-requires c κs = search needs
 
--- src/write.rt:198:9
 window-checked-requires : tie.Need-window-checked-requires
 window-checked-requires c κs = search needs
 
--- src/write.rt:200:24
 enum-known-p : tie.Need-enum-known-p
 enum-known-p c = search needs
 
--- src/write.rt:202:24
 enum-told : tie.Need-enum-told
 enum-told c = search needs
 
--- src/write.rt:202:24
 add-body : tie.Need-add-body
 add-body c = let own = c .before .before .before .before .before .before .before .args .own in omega (arith, place-small (whole (wnd1 _ own) _ [] [] _ []) _ _ _ (wnd1-checks _ _ _ _ (c .before .before .before .base-checked .ensures) own _ _ _ (c .before .before .window-checked .ensures)) _ (c .enum-told .given .1))
 
--- src/write.rt:203:26
 window-length-requires : tie.Need-window-length-requires
 window-length-requires c κs = let own = c .before .before .before .before .before .before .before .args .own in let g = wnd1-good _ _ _ _ _ (c .enum-told .given .1) own _ _ (wnd1-checks _ _ _ _ (c .before .before .before .base-checked .ensures) own _ _ _ (c .before .before .window-checked .ensures)) in (omega (arith, place-small (whole (wnd1 _ own) _ [] [] _ []) _ _ _ (wnd1-checks _ _ _ _ (c .before .before .before .base-checked .ensures) own _ _ _ (c .before .before .window-checked .ensures)) _ (c .enum-told .given .1)), g .«most-quads», g .«most-frames»)
 
--- src/write.rt:203:21
 add-n : tie.Need-add-n
 add-n c = search needs
 
--- src/write.rt:204:17
 end-checked-requires : tie.Need-end-checked-requires
 end-checked-requires c κs = let own = c .before .before .before .before .before .before .before .before .args .own in (omega (arith, c .window-length .ensures .1), place-small (whole (wnd1 _ own) _ [] [] _ []) _ _ _ (wnd1-checks _ _ _ _ (c .before .before .before .before .base-checked .ensures) own _ _ _ (c .before .before .before .window-checked .ensures)))
 
--- src/write.rt:206:32
 enum-known-p-2 : tie.Need-enum-known-p-2
 enum-known-p-2 c = search needs
 
--- src/write.rt:208:25
 enum-told-2 : tie.Need-enum-told-2
 enum-told-2 c = search needs
 
--- src/write.rt:208:25
 padding-at-requires : tie.Need-padding-at-requires
 padding-at-requires c κs = search needs
 
--- src/write.rt:209:21
 put-header-requires : tie.Need-put-header-requires
 put-header-requires c κs = let own = c .before .before .before .before .before .before .before .before .before .before .before .before .before .args .own in let (_, room) = fits (whole (wnd1 _ own) _ [] [] _ []) _ _ _ (wnd1-checks _ _ _ _ (c .before .before .before .before .before .before .before .before .before .base-checked .ensures) own _ _ _ (c .before .before .before .before .before .before .before .before .window-checked .ensures)) _ _ (window-length _ _ _ _ (c .before .before .before .before .before .window-length .ensures .0)) (c .before .before .before .before .end-checked .ensures) _ (c .before .before .enum-told2 .given .1) in (omega (arith, c .before .before .before .before .before .window-length .ensures .1), omega (arith, room))
 
--- src/write.rt:210:25
 put-body-requires : tie.Need-put-body-requires
 put-body-requires c κs = let own = c .before .before .before .before .before .before .before .before .before .before .before .before .before .before .before .before .before .args .own in let (sound, room) = fits (whole (wnd1 _ own) _ [] [] _ []) _ _ _ (wnd1-checks _ _ _ _ (c .before .before .before .before .before .before .before .before .before .before .before .before .before .base-checked .ensures) own _ _ _ (c .before .before .before .before .before .before .before .before .before .before .before .before .window-checked .ensures)) _ _ (window-length _ _ _ _ (c .before .before .before .before .before .before .before .before .before .window-length .ensures .0)) (c .before .before .before .before .before .before .before .before .end-checked .ensures) _ (c .before .before .before .before .before .before .enum-told2 .given .1) in ((sound, wnd1-good _ _ _ _ _ (c .before .before .before .before .before .before .before .before .before .before .enum-told .given .1) own _ _ (wnd1-checks _ _ _ _ (c .before .before .before .before .before .before .before .before .before .before .before .before .before .base-checked .ensures) own _ _ _ (c .before .before .before .before .before .before .before .before .before .before .before .before .window-checked .ensures)), omega (arith, place-small (whole (wnd1 _ own) _ [] [] _ []) _ _ _ (wnd1-checks _ _ _ _ (c .before .before .before .before .before .before .before .before .before .before .before .before .before .base-checked .ensures) own _ _ _ (c .before .before .before .before .before .before .before .before .before .before .before .before .window-checked .ensures)) _ (c .before .before .before .before .before .before .before .before .before .before .enum-told .given .1))), omega (arith, room, window-length _ (c .before .before .before .before .before .before .before .before .before .before .before .before .before .before .before .before .before .args .quads .now) (c .before .before .before .before .before .before .before .before .before .before .before .before .before .before .before .before .before .args .frames .now) _ (c .before .before .before .before .before .before .before .before .before .window-length .ensures .0)))
 
--- src/write.rt:211:25
 put-zeros-requires : tie.Need-put-zeros-requires
 put-zeros-requires c κs = let own = c .before .before .before .before .before .before .before .before .before .before .before .before .before .before .before .before .before .before .before .before .before .args .own in let (_, room) = fits (whole (wnd1 _ own) _ [] [] _ []) _ _ _ (wnd1-checks _ _ _ _ (c .before .before .before .before .before .before .before .before .before .before .before .before .before .before .before .before .before .base-checked .ensures) own _ _ _ (c .before .before .before .before .before .before .before .before .before .before .before .before .before .before .before .before .window-checked .ensures)) _ _ (window-length _ _ _ _ (c .before .before .before .before .before .before .before .before .before .before .before .before .before .window-length .ensures .0)) (c .before .before .before .before .before .before .before .before .before .before .before .before .end-checked .ensures) _ (c .before .before .before .before .before .before .before .before .before .before .enum-told2 .given .1) in omega (arith, room, window-length _ (c .before .before .before .before .before .before .before .before .before .before .before .before .before .before .before .before .before .before .before .before .before .args .quads .now) (c .before .before .before .before .before .before .before .before .before .before .before .before .before .before .before .before .before .before .before .before .before .args .frames .now) _ (c .before .before .before .before .before .before .before .before .before .before .before .before .before .window-length .ensures .0), c .before .before .before .before .before .before .before .before .before .padding-at .ensures, c .before .before .before .put-body .ensures .place)
 
--- src/write.rt:184:1
 returns : tie.Need-returns
 returns c = let own = c .before .before .before .before .before .before .before .before .args .own in not-written _ (whole (wnd1 _ own) _ [] [] _ []) _ _ _ (stopped (whole (wnd1 _ own) _ [] [] _ []) _ _ _ (wnd1-checks _ _ _ _ (c .before .before .before .before .base-checked .ensures) own _ _ _ (c .before .before .before .window-checked .ensures)) _ (c .before .p .given .1)) _ (c .before .p .given .1)
 
--- src/write.rt:184:1
 returns-2 : tie.Need-returns-2
 returns-2 c = let own = c .before .before .before .before .before .before .before .before .before .before .before .before .args .own in not-written _ (whole (wnd1 _ own) _ [] [] _ []) _ _ _ (end-made (whole (wnd1 _ own) _ [] [] _ []) _ _ _ (wnd1-checks _ _ _ _ (c .before .before .before .before .before .before .before .before .base-checked .ensures) own _ _ _ (c .before .before .before .before .before .before .before .window-checked .ensures)) _ _ (window-length _ _ _ _ (c .before .before .before .before .window-length .ensures .0)) (c .before .before .before .end-checked .ensures)) _ (c .before .p2 .given .1)
 
--- src/write.rt:184:1
 same-length : tie.Need-same-length
 same-length c = search needs
 
--- src/write.rt:184:1
 returns-3 : tie.Need-returns-3
 returns-3 c = let own = c .before .before .before .before .before .before .before .before .before .before .before .before .before .before .before .before .before .before .before .before .before .before .before .before .args .own in wnd1-written _ _ _ _ _ _ (c .before .before .before .before .before .before .before .before .before .before .before .before .before .enum-told2 .given .1) (c .before .before .before .before .before .before .before .before .before .before .before .before .padding-at .ensures) (c .before .before .put-zeros .ensures) own _ _ (end-made (whole (wnd1 _ own) _ [] [] _ []) _ _ _ (wnd1-checks _ _ _ _ (c .before .before .before .before .before .before .before .before .before .before .before .before .before .before .before .before .before .before .before .before .base-checked .ensures) own _ _ _ (c .before .before .before .before .before .before .before .before .before .before .before .before .before .before .before .before .before .before .before .window-checked .ensures)) _ _ (window-length _ _ _ _ (c .before .before .before .before .before .before .before .before .before .before .before .before .before .before .before .before .window-length .ensures .0)) (c .before .before .before .before .before .before .before .before .before .before .before .before .before .before .before .end-checked .ensures)) (window-length _ _ _ _ (c .before .before .before .before .before .before .before .before .before .before .before .before .before .before .before .before .window-length .ensures .0)) (c .before .before .before .before .before .before .before .before .before .before .put-header .ensures) (c .before .before .before .before .before .before .put-body .ensures)
 

@@ -1,12 +1,12 @@
 -- The section write of each kind, as the code makes it.
-use mathlib.Core.Path.{_≡_, refl, sym, ap, _∙_, subst}
+use mathlib.Core.Path.{_≡_, refl, sym, ap, _∙_}
 use Prim.Native.Nat.{ℕ, _+_, _^_, _≤_, _<_}
 use native.Mathlib.Omega.{arith}
-use mathlib.Core.List.{List, [], _∷_, _++_, append-assoc}
+use mathlib.Core.List.{List, [], _++_, append-assoc}
 use lib.ListN.{length, replicate}
-use Rattle.core.specs.Bytes.{bytesOf, padding, splice, Put}
+use Rattle.core.specs.Bytes.{bytesOf, padding, Put}
 use Rattle.core.specs.Taken.{start}
-use Rattle.core.specs.Checks.{lengthChecked, sectionChecked, sectionStart, endChecked, unlessRefused, writtenOf}
+use Rattle.core.specs.Checks.{lengthChecked, sectionChecked, sectionStart, endChecked}
 use Rattle.core.specs.declared.error.Refusal.{Refusal}
 use Rattle.core.specs.declared.checks.Written.{Written}
 use Rattle.core.specs.declared.checks.Written.the-variants as Writtens
@@ -36,7 +36,7 @@ use Rattle.alignment.specs.Body as alignment
 use Rattle.alignment.specs.declared.AlignmentPane.{AlignmentPane}
 use Rattle.strip.specs.Kinds.{letterBytes}
 use Rattle.strip.specs.Whole.{Whole, whole, pan1, pic1, txt1, wnd1, ali1}
-use Rattle.strip.specs.Write.{GoodOwn, ownLengthChecked, ownNameChecked, ownChecked, bodyLength, encodeBody, sectionSize, sizeOf, section, sectionEnd, writeChecked, writeAnswer, writeOutput}
+use Rattle.strip.specs.Write.{ownLengthChecked, ownNameChecked, ownChecked, bodyLength, encodeBody, sectionSize, sizeOf, section, writeChecked, writeAnswer, writeOutput}
 use Rattle.strip.specs.declared.kind.Kind.the-variants.{Pan1, Pic1, Txt1, Wnd1, Ali1}
 use Rattle.strip.specs.declared.record.Record.{Record}
 use Rattle.strip.proofs.Cleared.{OwnGood, beforeEnd, checks-cleared, write-cleared}

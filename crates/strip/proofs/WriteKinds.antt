@@ -137,6 +137,9 @@ module _ (n p : ℕ) (base : Pane) (q : Place) (c : Cursor) (h : q ≡ At c) whe
 
 -- ---- the bytes of each kind
 
+pub text-length : (p : ℕ) (own : TextBoxPane) (units lines label : List ℕ) (x : ℕ) → x ≡ textBoxLength p own units lines label → 76 + x ≡ 76 + textBoxLength p own units lines label
+text-length p own units lines label x e = rw e
+
 pub window-length : (p : ℕ) (quads frames : List ℕ) (x : ℕ) → x ≡ windowLength p (length quads) (length frames) → 76 + x ≡ window.bodyLength p quads frames
 unfolding window.bodyLength
 window-length p quads frames x e = rw e

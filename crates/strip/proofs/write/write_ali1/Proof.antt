@@ -17,7 +17,9 @@ base-checked-requires : tie.Need-base-checked-requires
 base-checked-requires c κs = search needs
 
 end-checked-requires : tie.Need-end-checked-requires
-end-checked-requires c κs = let own = c .before .before .args .own in (omega arith, place-small (whole (ali1 _ own) [] [] [] [] []) _ _ _ (ali1-checks _ _ _ _ (c .base-checked .ensures) own))
+end-checked-requires c κs =
+    let own = c .before .before .args .own in
+    (omega arith, place-small (whole (ali1 _ own) [] [] [] [] []) _ _ _ (ali1-checks _ _ _ _ (c .base-checked .ensures) own))
 
 enum-known-p : tie.Need-enum-known-p
 enum-known-p c = search needs
@@ -26,19 +28,35 @@ enum-told : tie.Need-enum-told
 enum-told c = search needs
 
 put-header-requires : tie.Need-put-header-requires
-put-header-requires c κs = let own = c .before .before .before .before .before .before .args .own in let (_, room) = fits (whole (ali1 _ own) [] [] [] [] []) _ _ _ (ali1-checks _ _ _ _ (c .before .before .before .before .base-checked .ensures) own) 88 _ refl (c .before .before .before .end-checked .ensures) _ (c .before .enum-told .given .1) in (omega arith, omega (arith, room))
+put-header-requires c κs =
+    let own = c .before .before .before .before .before .before .args .own in
+    let e = ali1-checks _ _ _ _ (c .before .before .before .before .base-checked .ensures) own in
+    let (_, room) = fits (whole (ali1 _ own) [] [] [] [] []) _ _ _ e 88 _ refl (c .before .before .before .end-checked .ensures) _ (c .before .enum-told .given .1) in
+    (omega arith, omega (arith, room))
 
 put-body-requires : tie.Need-put-body-requires
-put-body-requires c κs = let own = c .before .before .before .before .before .before .before .before .before .before .args .own in let (sound, room) = fits (whole (ali1 _ own) [] [] [] [] []) _ _ _ (ali1-checks _ _ _ _ (c .before .before .before .before .before .before .before .before .base-checked .ensures) own) 88 _ refl (c .before .before .before .before .before .before .before .end-checked .ensures) _ (c .before .before .before .before .before .enum-told .given .1) in (sound, omega (arith, room, c .before .before .before .put-header .ensures .place))
+put-body-requires c κs =
+    let own = c .before .before .before .before .before .before .before .before .before .before .args .own in
+    let e = ali1-checks _ _ _ _ (c .before .before .before .before .before .before .before .before .base-checked .ensures) own in
+    let (sound, room) = fits (whole (ali1 _ own) [] [] [] [] []) _ _ _ e 88 _ refl (c .before .before .before .before .before .before .before .end-checked .ensures) _ (c .before .before .before .before .before .enum-told .given .1) in
+    (sound, omega (arith, room, c .before .before .before .put-header .ensures .place))
 
 returns : tie.Need-returns
-returns c = let own = c .before .before .before .before .before .before .args .own in not-written _ (whole (ali1 _ own) [] [] [] [] []) _ _ _ (end-made (whole (ali1 _ own) [] [] [] [] []) _ _ _ (ali1-checks _ _ _ _ (c .before .before .before .before .base-checked .ensures) own) 88 _ refl (c .before .before .before .end-checked .ensures)) _ (c .before .p .given .1)
+returns c =
+    let own = c .before .before .before .before .before .before .args .own in
+    let e = ali1-checks _ _ _ _ (c .before .before .before .before .base-checked .ensures) own in
+    not-written _ (whole (ali1 _ own) [] [] [] [] []) _ _ _ (end-made (whole (ali1 _ own) [] [] [] [] []) _ _ _ e 88 _ refl (c .before .before .before .end-checked .ensures)) _ (c .before .p .given .1)
 
 same-length : tie.Need-same-length
 same-length c = search needs
 
 returns-2 : tie.Need-returns-2
-returns-2 c = let own = c .before .before .before .before .before .before .before .before .before .before .before .before .before .args .own in ali1-written _ _ _ _ (c .before .before .before .before .before .before .before .before .enum-told .given .1) own (end-made (whole (ali1 _ own) [] [] [] [] []) _ _ _ (ali1-checks _ _ _ _ (c .before .before .before .before .before .before .before .before .before .before .before .base-checked .ensures) own) 88 _ refl (c .before .before .before .before .before .before .before .before .before .before .end-checked .ensures)) (c .before .before .before .before .before .before .put-header .ensures) (c .before .before .put-body .ensures)
+returns-2 c =
+    let own = c .before .before .before .before .before .before .before .before .before .before .before .before .before .args .own in
+    let e = ali1-checks _ _ _ _ (c .before .before .before .before .before .before .before .before .before .before .before .base-checked .ensures) own in
+    ali1-written _ _ _ _ (c .before .before .before .before .before .before .before .before .enum-told .given .1) own (end-made (whole (ali1 _ own) [] [] [] [] []) _ _ _ e 88 _ refl (c .before .before .before .before .before .before .before .before .before .before .end-checked .ensures))
+    (c .before .before .before .before .before .before .put-header .ensures)
+    (c .before .before .put-body .ensures)
 
 pub write-ali1-spec : {M : Type 1} → statement M
 write-ali1-spec =

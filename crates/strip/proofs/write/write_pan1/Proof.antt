@@ -26,19 +26,31 @@ enum-told : tie.Need-enum-told
 enum-told c = search needs
 
 put-header-requires : tie.Need-put-header-requires
-put-header-requires c κs = let (_, room) = fits (whole (pan1 _) [] [] [] [] []) _ _ _ (pan1-checks _ _ _ _ (c .before .before .before .before .base-checked .ensures)) 76 _ refl (c .before .before .before .end-checked .ensures) _ (c .before .enum-told .given .1) in (omega arith, omega (arith, room))
+put-header-requires c κs =
+    let e = pan1-checks _ _ _ _ (c .before .before .before .before .base-checked .ensures) in
+    let (_, room) = fits (whole (pan1 _) [] [] [] [] []) _ _ _ e 76 _ refl (c .before .before .before .end-checked .ensures) _ (c .before .enum-told .given .1) in
+    (omega arith, omega (arith, room))
 
 put-pane-requires : tie.Need-put-pane-requires
-put-pane-requires c κs = let (sound, room) = fits (whole (pan1 _) [] [] [] [] []) _ _ _ (pan1-checks _ _ _ _ (c .before .before .before .before .before .before .before .before .base-checked .ensures)) 76 _ refl (c .before .before .before .before .before .before .before .end-checked .ensures) _ (c .before .before .before .before .before .enum-told .given .1) in (sound, omega (arith, room, c .before .before .before .put-header .ensures .place))
+put-pane-requires c κs =
+    let e = pan1-checks _ _ _ _ (c .before .before .before .before .before .before .before .before .base-checked .ensures) in
+    let (sound, room) = fits (whole (pan1 _) [] [] [] [] []) _ _ _ e 76 _ refl (c .before .before .before .before .before .before .before .end-checked .ensures) _ (c .before .before .before .before .before .enum-told .given .1) in
+    (sound, omega (arith, room, c .before .before .before .put-header .ensures .place))
 
 returns : tie.Need-returns
-returns c = not-written _ (whole (pan1 _) [] [] [] [] []) _ _ _ (end-made (whole (pan1 _) [] [] [] [] []) _ _ _ (pan1-checks _ _ _ _ (c .before .before .before .before .base-checked .ensures)) 76 _ refl (c .before .before .before .end-checked .ensures)) _ (c .before .p .given .1)
+returns c =
+    let e = pan1-checks _ _ _ _ (c .before .before .before .before .base-checked .ensures) in
+    not-written _ (whole (pan1 _) [] [] [] [] []) _ _ _ (end-made (whole (pan1 _) [] [] [] [] []) _ _ _ e 76 _ refl (c .before .before .before .end-checked .ensures)) _ (c .before .p .given .1)
 
 same-length : tie.Need-same-length
 same-length c = search needs
 
 returns-2 : tie.Need-returns-2
-returns-2 c = pan1-written _ _ _ _ (c .before .before .before .before .before .before .before .before .enum-told .given .1) (end-made (whole (pan1 _) [] [] [] [] []) _ _ _ (pan1-checks _ _ _ _ (c .before .before .before .before .before .before .before .before .before .before .before .base-checked .ensures)) 76 _ refl (c .before .before .before .before .before .before .before .before .before .before .end-checked .ensures)) (c .before .before .before .before .before .before .put-header .ensures) (c .before .before .put-pane .ensures)
+returns-2 c =
+    let e = pan1-checks _ _ _ _ (c .before .before .before .before .before .before .before .before .before .before .before .base-checked .ensures) in
+    pan1-written _ _ _ _ (c .before .before .before .before .before .before .before .before .enum-told .given .1) (end-made (whole (pan1 _) [] [] [] [] []) _ _ _ e 76 _ refl (c .before .before .before .before .before .before .before .before .before .before .end-checked .ensures))
+    (c .before .before .before .before .before .before .put-header .ensures)
+    (c .before .before .put-pane .ensures)
 
 pub write-pan1-spec : {M : Type 1} → statement M
 write-pan1-spec =

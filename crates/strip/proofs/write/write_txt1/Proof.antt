@@ -1,8 +1,6 @@
-use mathlib.Core.Path.{ap}
-use Prim.Native.Nat.{ℕ, _+_}
 use mathlib.Core.List.{[]}
 use Rattle.strip.specs.Whole.{whole, txt1}
-use Rattle.strip.proofs.WriteKinds.{txt1-checks, txt1-good, place-small, fits, stopped, end-made, not-written, txt1-written}
+use Rattle.strip.proofs.WriteKinds.{txt1-checks, txt1-good, text-length, place-small, fits, stopped, end-made, not-written, txt1-written}
 use native.Mathlib.Omega.{arith}
 use borrow.Author.Needs.{needs}
 use Rattle.strip.proofs.write.write_txt1.Statement.{statement}
@@ -35,16 +33,31 @@ enum-told : tie.Need-enum-told
 enum-told c = search needs
 
 add-body : tie.Need-add-body
-add-body c = let own = c .before .before .before .before .before .before .before .before .before .args .own in let label = c .before .before .before .before .before .before .before .before .before .args .label .now in omega (arith, place-small (whole (txt1 _ own) [] _ _ [] label) _ _ _ (txt1-checks _ own _ _ label _ _ _ _ (c .before .before .before .labelled-checked .ensures) (c .before .before .text-box-checked .ensures)) _ (c .enum-told .given .1))
+add-body c =
+    let own = c .before .before .before .before .before .before .before .before .before .args .own in
+    let label = c .before .before .before .before .before .before .before .before .before .args .label .now in
+    let e = txt1-checks _ own _ _ label _ _ _ _ (c .before .before .before .labelled-checked .ensures) (c .before .before .text-box-checked .ensures) in
+    let low = place-small (whole (txt1 _ own) [] _ _ [] label) _ _ _ e _ (c .enum-told .given .1) in
+    omega (arith, low)
 
 text-box-length-requires : tie.Need-text-box-length-requires
-text-box-length-requires c κs = let own = c .before .before .before .before .before .before .before .before .before .args .own in let label = c .before .before .before .before .before .before .before .before .before .args .label .now in (omega arith, omega (arith, place-small (whole (txt1 _ own) [] _ _ [] label) _ _ _ (txt1-checks _ own _ _ label _ _ _ _ (c .before .before .before .labelled-checked .ensures) (c .before .before .text-box-checked .ensures)) _ (c .enum-told .given .1)), txt1-good _ _ _ _ _ (c .enum-told .given .1) own _ _ label (txt1-checks _ own _ _ label _ _ _ _ (c .before .before .before .labelled-checked .ensures) (c .before .before .text-box-checked .ensures)) (c .before .before .before .before .typed-text-box .ensures .long))
+text-box-length-requires c κs =
+    let own = c .before .before .before .before .before .before .before .before .before .args .own in
+    let label = c .before .before .before .before .before .before .before .before .before .args .label .now in
+    let e = txt1-checks _ own _ _ label _ _ _ _ (c .before .before .before .labelled-checked .ensures) (c .before .before .text-box-checked .ensures) in
+    let low = place-small (whole (txt1 _ own) [] _ _ [] label) _ _ _ e _ (c .enum-told .given .1) in
+    let good = txt1-good _ _ _ _ _ (c .enum-told .given .1) own _ _ label e (c .before .before .before .before .typed-text-box .ensures .long) in
+    (omega arith, omega (arith, low), good)
 
 add-n : tie.Need-add-n
 add-n c = search needs
 
 end-checked-requires : tie.Need-end-checked-requires
-end-checked-requires c κs = let own = c .before .before .before .before .before .before .before .before .before .before .args .own in let label = c .before .before .before .before .before .before .before .before .before .before .args .label .now in (omega (arith, c .text-box-length .ensures .1), place-small (whole (txt1 _ own) [] _ _ [] label) _ _ _ (txt1-checks _ own _ _ label _ _ _ _ (c .before .before .before .before .labelled-checked .ensures) (c .before .before .before .text-box-checked .ensures)))
+end-checked-requires c κs =
+    let own = c .before .before .before .before .before .before .before .before .before .before .args .own in
+    let label = c .before .before .before .before .before .before .before .before .before .before .args .label .now in
+    let e = txt1-checks _ own _ _ label _ _ _ _ (c .before .before .before .before .labelled-checked .ensures) (c .before .before .before .text-box-checked .ensures) in
+    (omega (arith, c .text-box-length .ensures .1), place-small (whole (txt1 _ own) [] _ _ [] label) _ _ _ e)
 
 enum-known-p-2 : tie.Need-enum-known-p-2
 enum-known-p-2 c = search needs
@@ -56,25 +69,63 @@ padding-at-requires : tie.Need-padding-at-requires
 padding-at-requires c κs = search needs
 
 put-header-requires : tie.Need-put-header-requires
-put-header-requires c κs = let own = c .before .before .before .before .before .before .before .before .before .before .before .before .before .before .before .args .own in let label = c .before .before .before .before .before .before .before .before .before .before .before .before .before .before .before .args .label .now in let (_, room) = fits (whole (txt1 _ own) [] _ _ [] label) _ _ _ (txt1-checks _ own _ _ label _ _ _ _ (c .before .before .before .before .before .before .before .before .before .labelled-checked .ensures) (c .before .before .before .before .before .before .before .before .text-box-checked .ensures)) _ _ (ap (λ (x : ℕ). 76 + x) (c .before .before .before .before .before .text-box-length .ensures .0)) (c .before .before .before .before .end-checked .ensures) _ (c .before .before .enum-told2 .given .1) in (omega (arith, c .before .before .before .before .before .text-box-length .ensures .1), omega (arith, room))
+put-header-requires c κs =
+    let own = c .before .before .before .before .before .before .before .before .before .before .before .before .before .before .before .args .own in
+    let label = c .before .before .before .before .before .before .before .before .before .before .before .before .before .before .before .args .label .now in
+    let e = txt1-checks _ own _ _ label _ _ _ _ (c .before .before .before .before .before .before .before .before .before .labelled-checked .ensures) (c .before .before .before .before .before .before .before .before .text-box-checked .ensures) in
+    let n = text-length _ _ _ _ _ _ (c .before .before .before .before .before .text-box-length .ensures .0) in
+    let (_, room) = fits (whole (txt1 _ own) [] _ _ [] label) _ _ _ e _ _ n (c .before .before .before .before .end-checked .ensures) _ (c .before .before .enum-told2 .given .1) in
+    (omega (arith, c .before .before .before .before .before .text-box-length .ensures .1), omega (arith, room))
 
 put-body-requires : tie.Need-put-body-requires
-put-body-requires c κs = let own = c .before .before .before .before .before .before .before .before .before .before .before .before .before .before .before .before .before .before .before .args .own in let label = c .before .before .before .before .before .before .before .before .before .before .before .before .before .before .before .before .before .before .before .args .label .now in let (sound, room) = fits (whole (txt1 _ own) [] _ _ [] label) _ _ _ (txt1-checks _ own _ _ label _ _ _ _ (c .before .before .before .before .before .before .before .before .before .before .before .before .before .labelled-checked .ensures) (c .before .before .before .before .before .before .before .before .before .before .before .before .text-box-checked .ensures)) _ _ (ap (λ (x : ℕ). 76 + x) (c .before .before .before .before .before .before .before .before .before .text-box-length .ensures .0)) (c .before .before .before .before .before .before .before .before .end-checked .ensures) _ (c .before .before .before .before .before .before .enum-told2 .given .1) in (sound, omega arith, omega (arith, place-small (whole (txt1 _ own) [] _ _ [] label) _ _ _ (txt1-checks _ own _ _ label _ _ _ _ (c .before .before .before .before .before .before .before .before .before .before .before .before .before .labelled-checked .ensures) (c .before .before .before .before .before .before .before .before .before .before .before .before .text-box-checked .ensures)) _ (c .before .before .before .before .before .before .before .before .before .before .enum-told .given .1)), txt1-good _ _ _ _ _ (c .before .before .before .before .before .before .before .before .before .before .enum-told .given .1) own _ _ label (txt1-checks _ own _ _ label _ _ _ _ (c .before .before .before .before .before .before .before .before .before .before .before .before .before .labelled-checked .ensures) (c .before .before .before .before .before .before .before .before .before .before .before .before .text-box-checked .ensures)) (c .before .before .before .before .before .before .before .before .before .before .before .before .before .before .typed-text-box .ensures .long), omega (arith, room, c .before .before .before .before .before .before .before .before .before .text-box-length .ensures .0))
+put-body-requires c κs =
+    let own = c .before .before .before .before .before .before .before .before .before .before .before .before .before .before .before .before .before .before .before .args .own in
+    let label = c .before .before .before .before .before .before .before .before .before .before .before .before .before .before .before .before .before .before .before .args .label .now in
+    let e = txt1-checks _ own _ _ label _ _ _ _ (c .before .before .before .before .before .before .before .before .before .before .before .before .before .labelled-checked .ensures) (c .before .before .before .before .before .before .before .before .before .before .before .before .text-box-checked .ensures) in
+    let n = text-length _ _ _ _ _ _ (c .before .before .before .before .before .before .before .before .before .text-box-length .ensures .0) in
+    let low = place-small (whole (txt1 _ own) [] _ _ [] label) _ _ _ e _ (c .before .before .before .before .before .before .before .before .before .before .enum-told .given .1) in
+    let good = txt1-good _ _ _ _ _ (c .before .before .before .before .before .before .before .before .before .before .enum-told .given .1) own _ _ label e (c .before .before .before .before .before .before .before .before .before .before .before .before .before .before .typed-text-box .ensures .long) in
+    let (sound, room) = fits (whole (txt1 _ own) [] _ _ [] label) _ _ _ e _ _ n (c .before .before .before .before .before .before .before .before .end-checked .ensures) _ (c .before .before .before .before .before .before .enum-told2 .given .1) in
+    (sound, omega arith, omega (arith, low), good, omega (arith, room, n))
 
 put-zeros-requires : tie.Need-put-zeros-requires
-put-zeros-requires c κs = let own = c .before .before .before .before .before .before .before .before .before .before .before .before .before .before .before .before .before .before .before .before .before .before .before .args .own in let label = c .before .before .before .before .before .before .before .before .before .before .before .before .before .before .before .before .before .before .before .before .before .before .before .args .label .now in let (_, room) = fits (whole (txt1 _ own) [] _ _ [] label) _ _ _ (txt1-checks _ own _ _ label _ _ _ _ (c .before .before .before .before .before .before .before .before .before .before .before .before .before .before .before .before .before .labelled-checked .ensures) (c .before .before .before .before .before .before .before .before .before .before .before .before .before .before .before .before .text-box-checked .ensures)) _ _ (ap (λ (x : ℕ). 76 + x) (c .before .before .before .before .before .before .before .before .before .before .before .before .before .text-box-length .ensures .0)) (c .before .before .before .before .before .before .before .before .before .before .before .before .end-checked .ensures) _ (c .before .before .before .before .before .before .before .before .before .before .enum-told2 .given .1) in omega (arith, room, c .before .before .before .before .before .before .before .before .before .before .before .before .before .text-box-length .ensures .0, c .before .before .before .before .before .before .before .before .before .padding-at .ensures, c .before .before .before .put-body .ensures .place)
+put-zeros-requires c κs =
+    let own = c .before .before .before .before .before .before .before .before .before .before .before .before .before .before .before .before .before .before .before .before .before .before .before .args .own in
+    let label = c .before .before .before .before .before .before .before .before .before .before .before .before .before .before .before .before .before .before .before .before .before .before .before .args .label .now in
+    let e = txt1-checks _ own _ _ label _ _ _ _ (c .before .before .before .before .before .before .before .before .before .before .before .before .before .before .before .before .before .labelled-checked .ensures) (c .before .before .before .before .before .before .before .before .before .before .before .before .before .before .before .before .text-box-checked .ensures) in
+    let n = text-length _ _ _ _ _ _ (c .before .before .before .before .before .before .before .before .before .before .before .before .before .text-box-length .ensures .0) in
+    let (_, room) = fits (whole (txt1 _ own) [] _ _ [] label) _ _ _ e _ _ n (c .before .before .before .before .before .before .before .before .before .before .before .before .end-checked .ensures) _ (c .before .before .before .before .before .before .before .before .before .before .enum-told2 .given .1) in
+    omega (arith, room, n, c .before .before .before .before .before .before .before .before .before .padding-at .ensures, c .before .before .before .put-body .ensures .place)
 
 returns : tie.Need-returns
-returns c = let own = c .before .before .before .before .before .before .before .before .before .before .args .own in let label = c .before .before .before .before .before .before .before .before .before .before .args .label .now in not-written _ (whole (txt1 _ own) [] _ _ [] label) _ _ _ (stopped (whole (txt1 _ own) [] _ _ [] label) _ _ _ (txt1-checks _ own _ _ label _ _ _ _ (c .before .before .before .before .labelled-checked .ensures) (c .before .before .before .text-box-checked .ensures)) _ (c .before .p .given .1)) _ (c .before .p .given .1)
+returns c =
+    let own = c .before .before .before .before .before .before .before .before .before .before .args .own in
+    let label = c .before .before .before .before .before .before .before .before .before .before .args .label .now in
+    let e = txt1-checks _ own _ _ label _ _ _ _ (c .before .before .before .before .labelled-checked .ensures) (c .before .before .before .text-box-checked .ensures) in
+    not-written _ (whole (txt1 _ own) [] _ _ [] label) _ _ _ (stopped (whole (txt1 _ own) [] _ _ [] label) _ _ _ e _ (c .before .p .given .1)) _ (c .before .p .given .1)
 
 returns-2 : tie.Need-returns-2
-returns-2 c = let own = c .before .before .before .before .before .before .before .before .before .before .before .before .before .before .args .own in let label = c .before .before .before .before .before .before .before .before .before .before .before .before .before .before .args .label .now in not-written _ (whole (txt1 _ own) [] _ _ [] label) _ _ _ (end-made (whole (txt1 _ own) [] _ _ [] label) _ _ _ (txt1-checks _ own _ _ label _ _ _ _ (c .before .before .before .before .before .before .before .before .labelled-checked .ensures) (c .before .before .before .before .before .before .before .text-box-checked .ensures)) _ _ (ap (λ (x : ℕ). 76 + x) (c .before .before .before .before .text-box-length .ensures .0)) (c .before .before .before .end-checked .ensures)) _ (c .before .p2 .given .1)
+returns-2 c =
+    let own = c .before .before .before .before .before .before .before .before .before .before .before .before .before .before .args .own in
+    let label = c .before .before .before .before .before .before .before .before .before .before .before .before .before .before .args .label .now in
+    let e = txt1-checks _ own _ _ label _ _ _ _ (c .before .before .before .before .before .before .before .before .labelled-checked .ensures) (c .before .before .before .before .before .before .before .text-box-checked .ensures) in
+    let n = text-length _ _ _ _ _ _ (c .before .before .before .before .text-box-length .ensures .0) in
+    not-written _ (whole (txt1 _ own) [] _ _ [] label) _ _ _ (end-made (whole (txt1 _ own) [] _ _ [] label) _ _ _ e _ _ n (c .before .before .before .end-checked .ensures)) _ (c .before .p2 .given .1)
 
 same-length : tie.Need-same-length
 same-length c = search needs
 
 returns-3 : tie.Need-returns-3
-returns-3 c = let own = c .before .before .before .before .before .before .before .before .before .before .before .before .before .before .before .before .before .before .before .before .before .before .before .before .before .before .args .own in let label = c .before .before .before .before .before .before .before .before .before .before .before .before .before .before .before .before .before .before .before .before .before .before .before .before .before .before .args .label .now in txt1-written _ _ _ _ _ _ (c .before .before .before .before .before .before .before .before .before .before .before .before .before .enum-told2 .given .1) (c .before .before .before .before .before .before .before .before .before .before .before .before .padding-at .ensures) (c .before .before .put-zeros .ensures) own _ _ label (end-made (whole (txt1 _ own) [] _ _ [] label) _ _ _ (txt1-checks _ own _ _ label _ _ _ _ (c .before .before .before .before .before .before .before .before .before .before .before .before .before .before .before .before .before .before .before .before .labelled-checked .ensures) (c .before .before .before .before .before .before .before .before .before .before .before .before .before .before .before .before .before .before .before .text-box-checked .ensures)) _ _ (ap (λ (x : ℕ). 76 + x) (c .before .before .before .before .before .before .before .before .before .before .before .before .before .before .before .before .text-box-length .ensures .0)) (c .before .before .before .before .before .before .before .before .before .before .before .before .before .before .before .end-checked .ensures)) (ap (λ (x : ℕ). 76 + x) (c .before .before .before .before .before .before .before .before .before .before .before .before .before .before .before .before .text-box-length .ensures .0)) (c .before .before .before .before .before .before .before .before .before .before .put-header .ensures) (c .before .before .before .before .before .before .put-body .ensures)
+returns-3 c =
+    let own = c .before .before .before .before .before .before .before .before .before .before .before .before .before .before .before .before .before .before .before .before .before .before .before .before .before .before .args .own in
+    let label = c .before .before .before .before .before .before .before .before .before .before .before .before .before .before .before .before .before .before .before .before .before .before .before .before .before .before .args .label .now in
+    let e = txt1-checks _ own _ _ label _ _ _ _ (c .before .before .before .before .before .before .before .before .before .before .before .before .before .before .before .before .before .before .before .before .labelled-checked .ensures) (c .before .before .before .before .before .before .before .before .before .before .before .before .before .before .before .before .before .before .before .text-box-checked .ensures) in
+    let n = text-length _ _ _ _ _ _ (c .before .before .before .before .before .before .before .before .before .before .before .before .before .before .before .before .text-box-length .ensures .0) in
+    txt1-written _ _ _ _ _ _ (c .before .before .before .before .before .before .before .before .before .before .before .before .before .enum-told2 .given .1)
+    (c .before .before .before .before .before .before .before .before .before .before .before .before .padding-at .ensures)
+    (c .before .before .put-zeros .ensures) own _ _ label (end-made (whole (txt1 _ own) [] _ _ [] label) _ _ _ e _ _ n (c .before .before .before .before .before .before .before .before .before .before .before .before .before .before .before .end-checked .ensures)) n
+    (c .before .before .before .before .before .before .before .before .before .before .put-header .ensures)
+    (c .before .before .before .before .before .before .put-body .ensures)
 
 pub write-txt1-spec : {M : Type 1} → statement M
 write-txt1-spec =

@@ -29,16 +29,28 @@ enum-told : tie.Need-enum-told
 enum-told c = search needs
 
 add-body : tie.Need-add-body
-add-body c = let own = c .before .before .before .before .before .before .before .args .own in omega (arith, place-small (whole (wnd1 _ own) _ [] [] _ []) _ _ _ (wnd1-checks _ _ _ _ (c .before .before .before .base-checked .ensures) own _ _ _ (c .before .before .window-checked .ensures)) _ (c .enum-told .given .1))
+add-body c =
+    let own = c .before .before .before .before .before .before .before .args .own in
+    let e = wnd1-checks _ _ _ _ (c .before .before .before .base-checked .ensures) own _ _ _ (c .before .before .window-checked .ensures) in
+    let low = place-small (whole (wnd1 _ own) _ [] [] _ []) _ _ _ e _ (c .enum-told .given .1) in
+    omega (arith, low)
 
 window-length-requires : tie.Need-window-length-requires
-window-length-requires c κs = let own = c .before .before .before .before .before .before .before .args .own in let g = wnd1-good _ _ _ _ _ (c .enum-told .given .1) own _ _ (wnd1-checks _ _ _ _ (c .before .before .before .base-checked .ensures) own _ _ _ (c .before .before .window-checked .ensures)) in (omega (arith, place-small (whole (wnd1 _ own) _ [] [] _ []) _ _ _ (wnd1-checks _ _ _ _ (c .before .before .before .base-checked .ensures) own _ _ _ (c .before .before .window-checked .ensures)) _ (c .enum-told .given .1)), g .«most-quads», g .«most-frames»)
+window-length-requires c κs =
+    let own = c .before .before .before .before .before .before .before .args .own in
+    let e = wnd1-checks _ _ _ _ (c .before .before .before .base-checked .ensures) own _ _ _ (c .before .before .window-checked .ensures) in
+    let low = place-small (whole (wnd1 _ own) _ [] [] _ []) _ _ _ e _ (c .enum-told .given .1) in
+    let good = wnd1-good _ _ _ _ _ (c .enum-told .given .1) own _ _ e in
+    (omega (arith, low), good .«most-quads», good .«most-frames»)
 
 add-n : tie.Need-add-n
 add-n c = search needs
 
 end-checked-requires : tie.Need-end-checked-requires
-end-checked-requires c κs = let own = c .before .before .before .before .before .before .before .before .args .own in (omega (arith, c .window-length .ensures .1), place-small (whole (wnd1 _ own) _ [] [] _ []) _ _ _ (wnd1-checks _ _ _ _ (c .before .before .before .before .base-checked .ensures) own _ _ _ (c .before .before .before .window-checked .ensures)))
+end-checked-requires c κs =
+    let own = c .before .before .before .before .before .before .before .before .args .own in
+    let e = wnd1-checks _ _ _ _ (c .before .before .before .before .base-checked .ensures) own _ _ _ (c .before .before .before .window-checked .ensures) in
+    (omega (arith, c .window-length .ensures .1), place-small (whole (wnd1 _ own) _ [] [] _ []) _ _ _ e)
 
 enum-known-p-2 : tie.Need-enum-known-p-2
 enum-known-p-2 c = search needs
@@ -50,25 +62,57 @@ padding-at-requires : tie.Need-padding-at-requires
 padding-at-requires c κs = search needs
 
 put-header-requires : tie.Need-put-header-requires
-put-header-requires c κs = let own = c .before .before .before .before .before .before .before .before .before .before .before .before .before .args .own in let (_, room) = fits (whole (wnd1 _ own) _ [] [] _ []) _ _ _ (wnd1-checks _ _ _ _ (c .before .before .before .before .before .before .before .before .before .base-checked .ensures) own _ _ _ (c .before .before .before .before .before .before .before .before .window-checked .ensures)) _ _ (window-length _ _ _ _ (c .before .before .before .before .before .window-length .ensures .0)) (c .before .before .before .before .end-checked .ensures) _ (c .before .before .enum-told2 .given .1) in (omega (arith, c .before .before .before .before .before .window-length .ensures .1), omega (arith, room))
+put-header-requires c κs =
+    let own = c .before .before .before .before .before .before .before .before .before .before .before .before .before .args .own in
+    let e = wnd1-checks _ _ _ _ (c .before .before .before .before .before .before .before .before .before .base-checked .ensures) own _ _ _ (c .before .before .before .before .before .before .before .before .window-checked .ensures) in
+    let n = window-length _ (c .before .before .before .before .before .before .before .before .before .before .before .before .before .args .quads .now) (c .before .before .before .before .before .before .before .before .before .before .before .before .before .args .frames .now) _ (c .before .before .before .before .before .window-length .ensures .0) in
+    let (_, room) = fits (whole (wnd1 _ own) _ [] [] _ []) _ _ _ e _ _ n (c .before .before .before .before .end-checked .ensures) _ (c .before .before .enum-told2 .given .1) in
+    (omega (arith, c .before .before .before .before .before .window-length .ensures .1), omega (arith, room))
 
 put-body-requires : tie.Need-put-body-requires
-put-body-requires c κs = let own = c .before .before .before .before .before .before .before .before .before .before .before .before .before .before .before .before .before .args .own in let (sound, room) = fits (whole (wnd1 _ own) _ [] [] _ []) _ _ _ (wnd1-checks _ _ _ _ (c .before .before .before .before .before .before .before .before .before .before .before .before .before .base-checked .ensures) own _ _ _ (c .before .before .before .before .before .before .before .before .before .before .before .before .window-checked .ensures)) _ _ (window-length _ _ _ _ (c .before .before .before .before .before .before .before .before .before .window-length .ensures .0)) (c .before .before .before .before .before .before .before .before .end-checked .ensures) _ (c .before .before .before .before .before .before .enum-told2 .given .1) in ((sound, wnd1-good _ _ _ _ _ (c .before .before .before .before .before .before .before .before .before .before .enum-told .given .1) own _ _ (wnd1-checks _ _ _ _ (c .before .before .before .before .before .before .before .before .before .before .before .before .before .base-checked .ensures) own _ _ _ (c .before .before .before .before .before .before .before .before .before .before .before .before .window-checked .ensures)), omega (arith, place-small (whole (wnd1 _ own) _ [] [] _ []) _ _ _ (wnd1-checks _ _ _ _ (c .before .before .before .before .before .before .before .before .before .before .before .before .before .base-checked .ensures) own _ _ _ (c .before .before .before .before .before .before .before .before .before .before .before .before .window-checked .ensures)) _ (c .before .before .before .before .before .before .before .before .before .before .enum-told .given .1))), omega (arith, room, window-length _ (c .before .before .before .before .before .before .before .before .before .before .before .before .before .before .before .before .before .args .quads .now) (c .before .before .before .before .before .before .before .before .before .before .before .before .before .before .before .before .before .args .frames .now) _ (c .before .before .before .before .before .before .before .before .before .window-length .ensures .0)))
+put-body-requires c κs =
+    let own = c .before .before .before .before .before .before .before .before .before .before .before .before .before .before .before .before .before .args .own in
+    let e = wnd1-checks _ _ _ _ (c .before .before .before .before .before .before .before .before .before .before .before .before .before .base-checked .ensures) own _ _ _ (c .before .before .before .before .before .before .before .before .before .before .before .before .window-checked .ensures) in
+    let n = window-length _ (c .before .before .before .before .before .before .before .before .before .before .before .before .before .before .before .before .before .args .quads .now) (c .before .before .before .before .before .before .before .before .before .before .before .before .before .before .before .before .before .args .frames .now) _ (c .before .before .before .before .before .before .before .before .before .window-length .ensures .0) in
+    let low = place-small (whole (wnd1 _ own) _ [] [] _ []) _ _ _ e _ (c .before .before .before .before .before .before .before .before .before .before .enum-told .given .1) in
+    let good = wnd1-good _ _ _ _ _ (c .before .before .before .before .before .before .before .before .before .before .enum-told .given .1) own _ _ e in
+    let (sound, room) = fits (whole (wnd1 _ own) _ [] [] _ []) _ _ _ e _ _ n (c .before .before .before .before .before .before .before .before .end-checked .ensures) _ (c .before .before .before .before .before .before .enum-told2 .given .1) in
+    ((sound, good, omega (arith, low)), omega (arith, room, n))
 
 put-zeros-requires : tie.Need-put-zeros-requires
-put-zeros-requires c κs = let own = c .before .before .before .before .before .before .before .before .before .before .before .before .before .before .before .before .before .before .before .before .before .args .own in let (_, room) = fits (whole (wnd1 _ own) _ [] [] _ []) _ _ _ (wnd1-checks _ _ _ _ (c .before .before .before .before .before .before .before .before .before .before .before .before .before .before .before .before .before .base-checked .ensures) own _ _ _ (c .before .before .before .before .before .before .before .before .before .before .before .before .before .before .before .before .window-checked .ensures)) _ _ (window-length _ _ _ _ (c .before .before .before .before .before .before .before .before .before .before .before .before .before .window-length .ensures .0)) (c .before .before .before .before .before .before .before .before .before .before .before .before .end-checked .ensures) _ (c .before .before .before .before .before .before .before .before .before .before .enum-told2 .given .1) in omega (arith, room, window-length _ (c .before .before .before .before .before .before .before .before .before .before .before .before .before .before .before .before .before .before .before .before .before .args .quads .now) (c .before .before .before .before .before .before .before .before .before .before .before .before .before .before .before .before .before .before .before .before .before .args .frames .now) _ (c .before .before .before .before .before .before .before .before .before .before .before .before .before .window-length .ensures .0), c .before .before .before .before .before .before .before .before .before .padding-at .ensures, c .before .before .before .put-body .ensures .place)
+put-zeros-requires c κs =
+    let own = c .before .before .before .before .before .before .before .before .before .before .before .before .before .before .before .before .before .before .before .before .before .args .own in
+    let e = wnd1-checks _ _ _ _ (c .before .before .before .before .before .before .before .before .before .before .before .before .before .before .before .before .before .base-checked .ensures) own _ _ _ (c .before .before .before .before .before .before .before .before .before .before .before .before .before .before .before .before .window-checked .ensures) in
+    let n = window-length _ (c .before .before .before .before .before .before .before .before .before .before .before .before .before .before .before .before .before .before .before .before .before .args .quads .now) (c .before .before .before .before .before .before .before .before .before .before .before .before .before .before .before .before .before .before .before .before .before .args .frames .now) _ (c .before .before .before .before .before .before .before .before .before .before .before .before .before .window-length .ensures .0) in
+    let (_, room) = fits (whole (wnd1 _ own) _ [] [] _ []) _ _ _ e _ _ n (c .before .before .before .before .before .before .before .before .before .before .before .before .end-checked .ensures) _ (c .before .before .before .before .before .before .before .before .before .before .enum-told2 .given .1) in
+    omega (arith, room, n, c .before .before .before .before .before .before .before .before .before .padding-at .ensures, c .before .before .before .put-body .ensures .place)
 
 returns : tie.Need-returns
-returns c = let own = c .before .before .before .before .before .before .before .before .args .own in not-written _ (whole (wnd1 _ own) _ [] [] _ []) _ _ _ (stopped (whole (wnd1 _ own) _ [] [] _ []) _ _ _ (wnd1-checks _ _ _ _ (c .before .before .before .before .base-checked .ensures) own _ _ _ (c .before .before .before .window-checked .ensures)) _ (c .before .p .given .1)) _ (c .before .p .given .1)
+returns c =
+    let own = c .before .before .before .before .before .before .before .before .args .own in
+    let e = wnd1-checks _ _ _ _ (c .before .before .before .before .base-checked .ensures) own _ _ _ (c .before .before .before .window-checked .ensures) in
+    not-written _ (whole (wnd1 _ own) _ [] [] _ []) _ _ _ (stopped (whole (wnd1 _ own) _ [] [] _ []) _ _ _ e _ (c .before .p .given .1)) _ (c .before .p .given .1)
 
 returns-2 : tie.Need-returns-2
-returns-2 c = let own = c .before .before .before .before .before .before .before .before .before .before .before .before .args .own in not-written _ (whole (wnd1 _ own) _ [] [] _ []) _ _ _ (end-made (whole (wnd1 _ own) _ [] [] _ []) _ _ _ (wnd1-checks _ _ _ _ (c .before .before .before .before .before .before .before .before .base-checked .ensures) own _ _ _ (c .before .before .before .before .before .before .before .window-checked .ensures)) _ _ (window-length _ _ _ _ (c .before .before .before .before .window-length .ensures .0)) (c .before .before .before .end-checked .ensures)) _ (c .before .p2 .given .1)
+returns-2 c =
+    let own = c .before .before .before .before .before .before .before .before .before .before .before .before .args .own in
+    let e = wnd1-checks _ _ _ _ (c .before .before .before .before .before .before .before .before .base-checked .ensures) own _ _ _ (c .before .before .before .before .before .before .before .window-checked .ensures) in
+    let n = window-length _ (c .before .before .before .before .before .before .before .before .before .before .before .before .args .quads .now) (c .before .before .before .before .before .before .before .before .before .before .before .before .args .frames .now) _ (c .before .before .before .before .window-length .ensures .0) in
+    not-written _ (whole (wnd1 _ own) _ [] [] _ []) _ _ _ (end-made (whole (wnd1 _ own) _ [] [] _ []) _ _ _ e _ _ n (c .before .before .before .end-checked .ensures)) _ (c .before .p2 .given .1)
 
 same-length : tie.Need-same-length
 same-length c = search needs
 
 returns-3 : tie.Need-returns-3
-returns-3 c = let own = c .before .before .before .before .before .before .before .before .before .before .before .before .before .before .before .before .before .before .before .before .before .before .before .before .args .own in wnd1-written _ _ _ _ _ _ (c .before .before .before .before .before .before .before .before .before .before .before .before .before .enum-told2 .given .1) (c .before .before .before .before .before .before .before .before .before .before .before .before .padding-at .ensures) (c .before .before .put-zeros .ensures) own _ _ (end-made (whole (wnd1 _ own) _ [] [] _ []) _ _ _ (wnd1-checks _ _ _ _ (c .before .before .before .before .before .before .before .before .before .before .before .before .before .before .before .before .before .before .before .before .base-checked .ensures) own _ _ _ (c .before .before .before .before .before .before .before .before .before .before .before .before .before .before .before .before .before .before .before .window-checked .ensures)) _ _ (window-length _ _ _ _ (c .before .before .before .before .before .before .before .before .before .before .before .before .before .before .before .before .window-length .ensures .0)) (c .before .before .before .before .before .before .before .before .before .before .before .before .before .before .before .end-checked .ensures)) (window-length _ _ _ _ (c .before .before .before .before .before .before .before .before .before .before .before .before .before .before .before .before .window-length .ensures .0)) (c .before .before .before .before .before .before .before .before .before .before .put-header .ensures) (c .before .before .before .before .before .before .put-body .ensures)
+returns-3 c =
+    let own = c .before .before .before .before .before .before .before .before .before .before .before .before .before .before .before .before .before .before .before .before .before .before .before .before .args .own in
+    let e = wnd1-checks _ _ _ _ (c .before .before .before .before .before .before .before .before .before .before .before .before .before .before .before .before .before .before .before .before .base-checked .ensures) own _ _ _ (c .before .before .before .before .before .before .before .before .before .before .before .before .before .before .before .before .before .before .before .window-checked .ensures) in
+    let n = window-length _ (c .before .before .before .before .before .before .before .before .before .before .before .before .before .before .before .before .before .before .before .before .before .before .before .before .args .quads .now) (c .before .before .before .before .before .before .before .before .before .before .before .before .before .before .before .before .before .before .before .before .before .before .before .before .args .frames .now) _ (c .before .before .before .before .before .before .before .before .before .before .before .before .before .before .before .before .window-length .ensures .0) in
+    wnd1-written _ _ _ _ _ _ (c .before .before .before .before .before .before .before .before .before .before .before .before .before .enum-told2 .given .1)
+    (c .before .before .before .before .before .before .before .before .before .before .before .before .padding-at .ensures)
+    (c .before .before .put-zeros .ensures) own _ _ (end-made (whole (wnd1 _ own) _ [] [] _ []) _ _ _ e _ _ n (c .before .before .before .before .before .before .before .before .before .before .before .before .before .before .before .end-checked .ensures)) n
+    (c .before .before .before .before .before .before .before .before .before .before .put-header .ensures)
+    (c .before .before .before .before .before .before .put-body .ensures)
 
 pub write-wnd1-spec : {M : Type 1} → statement M
 write-wnd1-spec =

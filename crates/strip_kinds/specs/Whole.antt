@@ -3,11 +3,16 @@ use Prim.Native.Nat.{ℕ, _≤_}
 use mathlib.Core.List.{List, []}
 use lib.ListN.{length}
 use Rattle.pane.specs.Pane.{blankPane}
+use Rattle.pane.specs.declared.Pane.{Pane}
 use Rattle.picture.specs.Picture.{blankPicture}
+use Rattle.picture.specs.declared.PicturePane.{PicturePane}
 use Rattle.text_box_read.specs.TextBox.{blankTextBox}
+use Rattle.text_box_read.specs.declared.TextBoxPane.{TextBoxPane}
 use Rattle.window_read.specs.Window.{blankWindow}
+use Rattle.window_read.specs.declared.WindowPane.{WindowPane}
 use Rattle.alignment.specs.Alignment.{blankAlignment}
-use Rattle.strip_kinds.specs.declared.kind.Kind.the-variants.{Pan1}
+use Rattle.alignment.specs.declared.AlignmentPane.{AlignmentPane}
+use Rattle.strip_kinds.specs.declared.kind.Kind.the-variants.{Pan1, Pic1, Txt1, Wnd1, Ali1}
 use Rattle.strip_kinds.specs.declared.record.Record.{Record}
 
 -- the lent lists 1 to 4: quads, units, lines, frames
@@ -50,3 +55,24 @@ blankRecord = record {
   window = blankWindow;
   alignment = blankAlignment;
 }
+
+-- a record of each kind: what the other kinds have is blank
+abbrev pub pan1 : Pane → Record
+pan1 base =
+    record { kind = Pan1; base = base; picture = blankPicture; «text_box» = blankTextBox; window = blankWindow; alignment = blankAlignment }
+
+abbrev pub pic1 : Pane → PicturePane → Record
+pic1 base x =
+    record { kind = Pic1; base = base; picture = x; «text_box» = blankTextBox; window = blankWindow; alignment = blankAlignment }
+
+abbrev pub txt1 : Pane → TextBoxPane → Record
+txt1 base x =
+    record { kind = Txt1; base = base; picture = blankPicture; «text_box» = x; window = blankWindow; alignment = blankAlignment }
+
+abbrev pub wnd1 : Pane → WindowPane → Record
+wnd1 base x =
+    record { kind = Wnd1; base = base; picture = blankPicture; «text_box» = blankTextBox; window = x; alignment = blankAlignment }
+
+abbrev pub ali1 : Pane → AlignmentPane → Record
+ali1 base x =
+    record { kind = Ali1; base = base; picture = blankPicture; «text_box» = blankTextBox; window = blankWindow; alignment = x }

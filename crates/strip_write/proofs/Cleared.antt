@@ -1,11 +1,11 @@
 -- What the checks of the section write tell.
-use mathlib.Core.Path.{_≡_, sym, ap, _∙_}
-use Prim.Native.Nat.{ℕ, _+_, _^_, _≤_, _<_}
+use mathlib.Core.Path.{_≡_}
+use Prim.Native.Nat.{ℕ, _+_, _≤_}
 use native.Mathlib.Omega.{arith}
 use mathlib.Core.List.{List}
 use Rattle.core.specs.Bytes.{padding}
 use Rattle.core.specs.Taken.{start}
-use Rattle.core.specs.Checks.{lengthChecked, sectionChecked, endChecked}
+use Rattle.core.specs.Checks.{lengthChecked, sectionChecked}
 use Rattle.core.specs.declared.cursor.Cursor.{Cursor}
 use Rattle.core.specs.declared.cursor.Place.{Place}
 use Rattle.core.specs.declared.cursor.Place.the-variants.{At}
@@ -16,11 +16,11 @@ use Rattle.picture.specs.Picture.{GoodPicture}
 use Rattle.picture.proofs.Cleared.{picture-cleared}
 use Rattle.text_box_read.specs.Parts.{labelPart}
 use Rattle.text_box_write.specs.Written.{Few}
-use Rattle.text_box.proofs.Cleared.{GoodLabel, GoodTextBox, label-length-cleared, label-name-cleared, text-box-early, text-box-cleared, small}
+use Rattle.text_box.proofs.Cleared.{GoodLabel, GoodTextBox, label-length-cleared, label-name-cleared, text-box-early, text-box-cleared}
 use Rattle.window_write.specs.Write.{GoodWindow}
 use Rattle.window.proofs.Cleared.{window-cleared}
 use Rattle.strip_kinds.specs.Whole.{Whole}
-use Rattle.strip_write.specs.Write.{ownLengthChecked, ownNameChecked, ownChecked, GoodOwn, sectionSize, sectionEnd, writeChecked}
+use Rattle.strip_write.specs.Write.{ownLengthChecked, ownNameChecked, ownChecked, sectionSize, sectionEnd, writeChecked}
 use Rattle.strip_kinds.specs.declared.kind.Kind.{Kind}
 use Rattle.strip_kinds.specs.declared.kind.Kind.the-variants.{Pan1, Pic1, Txt1, Wnd1, Ali1}
 use Rattle.strip_kinds.specs.declared.record.Record.{Record}
@@ -79,15 +79,6 @@ own-cleared Txt1 p w c e l n = text-box-cleared p (w .pane .«text_box») (w .li
 own-cleared Wnd1 p w c e l n = window-cleared p (w .lists .quads) (w .lists .frames) c e .1
 own-cleared Ali1 p w c e l n = tt
 
--- with what the types say this is what the bytes ask
-pub own-small : (k : Kind) (w : Whole) → OwnGood k w → w .pane .«text_box» .«text_length» < 256 ^ 2 → GoodOwn k w
-unfolding OwnGood GoodOwn
-own-small Pan1 w g h = tt
-own-small Pic1 w g h = g
-own-small Txt1 w g h = small (w .pane .«text_box») (w .lists .units) (w .lists .lines) (w .label) h g
-own-small Wnd1 w g h = g
-own-small Ali1 w g h = tt
-
 -- what the checks before 16 tell
 pub record Passed (w : Whole) (n p : ℕ) : Type 0 where
   pub place : SectionOk n p
@@ -131,22 +122,6 @@ write-cleared w n p c e =
     let (h, f) = end-cleared _ _ n c e in
     let k = checks-cleared w n p c h in
     record { place = k .place; good = k .good; own = k .own; fits = f }
-
--- the checks as the code makes them
-module _ (w : Whole) (n p : ℕ) (c₀ : Cursor) (p₁ p₂ p₃ p₄ p₅ p₆ p₇ : Place) (e₀ : c₀ ≡ start p) (e₁ : p₁ ≡ lengthChecked (At c₀) n) (e₂ : p₂ ≡ ownLengthChecked (w .pane .kind) p₁ (w .pane) (w .label))
-    (e₃ : p₃ ≡ sectionChecked p₂ n p) (e₄ : p₄ ≡ namesChecked p₃ (w .pane .base)) (e₅ : p₅ ≡ ownNameChecked (w .pane .kind) p₄ (w .pane) (w .label))
-    (e₆ : p₆ ≡ reserveChecked p₅ (w .pane .base)) (e₇ : p₇ ≡ ownChecked (w .pane .kind) p₆ w) where
-  checks-made : p₇ ≡ beforeEnd w n p
-  checks-made = rw (e₇, e₆, e₅, e₄, e₃, e₂, e₁, e₀)
-
-  pub checks-told : w .pane .«text_box» .«text_length» < 256 ^ 2 → (c : Cursor) → p₇ ≡ At c → (p ≤ 16777216) × GoodOwn (w .pane .kind) w
-  checks-told t c h =
-      let k = checks-cleared w n p c (sym checks-made ∙ h) in
-      (omega (arith, k .place .most, k .place .within), own-small (w .pane .kind) w (k .own) t)
-
-  pub checks-run : endChecked p₇ (sectionEnd p w) n ≡ writeChecked w n p
-  unfolding writeChecked
-  checks-run = ap (λ (q : Place). endChecked q (sectionEnd p w) n) checks-made
 
 pub size-bound : (n : ℕ) → sectionSize n ≤ n + 11
 unfolding sectionSize padding

@@ -1,3 +1,4 @@
 pub mod Cleared
 pub mod Steps
+pub mod WriteKinds
 pub mod Fixed

@@ -1,56 +1,96 @@
-use mathlib.Core.Path.{sym, _∙_}
-use Rattle.core.proofs.Checked.{wrote, not-wrote}
-use Rattle.pane.proofs.Cleared.{sound}
-use Rattle.strip_kinds.specs.Whole.{whole}
-use Rattle.strip_write.specs.Write.{writeAnswer, writeOutput}
-use Rattle.strip_write.proofs.Cleared.{write-cleared, own-small}
-use native.Mathlib.Omega.{arith}
+use Rattle.strip_write.proofs.WriteKinds.{alone, pan1-alone, pic1-alone, txt1-alone, wnd1-alone, ali1-alone}
 use borrow.Author.Needs.{needs}
 use Rattle.strip_write.proofs.write.write_section.Statement.{statement}
 use Rattle.strip_write.proofs.write.write_section.Tie as tie
 use Rattle.strip_write.proofs.write.write_section.Reads as reads
 use Rattle.strip_write.proofs.write.write_section.Lts as lts
-use Rattle.strip_write.proofs.write.put_section.Reads as put-section-reads
-use Rattle.strip_write.proofs.write.write_checked.Reads as write-checked-reads
-use Rattle.text_box_read.proofs.typed_text_box.Reads as typed-text-box-reads
-
-typed-text-box-requires : tie.Need-typed-text-box-requires
-typed-text-box-requires c κs = search needs
-
-write-checked-requires : tie.Need-write-checked-requires
-write-checked-requires c κs = search needs
-
-enum-known-p : tie.Need-enum-known-p
-enum-known-p c = search needs
+use Rattle.strip_write.proofs.write.write_ali1.Reads as write-ali1-reads
+use Rattle.strip_write.proofs.write.write_pan1.Reads as write-pan1-reads
+use Rattle.strip_write.proofs.write.write_pic1.Reads as write-pic1-reads
+use Rattle.strip_write.proofs.write.write_txt1.Reads as write-txt1-reads
+use Rattle.strip_write.proofs.write.write_wnd1.Reads as write-wnd1-reads
 
 enum-told : tie.Need-enum-told
 enum-told c = search needs
 
-put-section-requires : tie.Need-put-section-requires
-put-section-requires c κs =
-    let a = write-cleared (whole _ _ _ _ _ _) _ _ _ (sym (c .before .before .before .write-checked .ensures) ∙ c .before .enum-told .given .1) in
-    (sound _ (a .good), omega (arith, a .place .most, a .place .within), own-small _ (whole _ _ _ _ _ _) (a .own) (c .before .before .before .before .typed-text-box .ensures .long), a .fits)
+write-pan1-requires : tie.Need-write-pan1-requires
+write-pan1-requires c κs = search needs
 
-returns : tie.Need-returns
-unfolding writeAnswer writeOutput
-returns c = not-wrote _ _ _ _ _ (sym (c .before .before .before .write-checked .ensures) ∙ c .before .p .given .1)
+enum-told-2 : tie.Need-enum-told-2
+enum-told-2 c = search needs
+
+write-pic1-requires : tie.Need-write-pic1-requires
+write-pic1-requires c κs = search needs
+
+enum-told-3 : tie.Need-enum-told-3
+enum-told-3 c = search needs
+
+write-txt1-requires : tie.Need-write-txt1-requires
+write-txt1-requires c κs = search needs
+
+enum-told-4 : tie.Need-enum-told-4
+enum-told-4 c = search needs
+
+write-wnd1-requires : tie.Need-write-wnd1-requires
+write-wnd1-requires c κs = search needs
+
+enum-told-5 : tie.Need-enum-told-5
+enum-told-5 c = search needs
+
+write-ali1-requires : tie.Need-write-ali1-requires
+write-ali1-requires c κs = search needs
 
 same-length : tie.Need-same-length
 same-length c = search needs
 
+returns : tie.Need-returns
+returns c = alone _ _ _ _ _ (pan1-alone _ _ _ (c .before .before .before .before .before .before .before .before .before .before .before .before .args .r) _ _ _ _ _ (c .before .before .before .before .enum-told .given .1)) (c .before .before .write-pan1 .ensures)
+
+same-length-2 : tie.Need-same-length-2
+same-length-2 c = search needs
+
 returns-2 : tie.Need-returns-2
-unfolding writeAnswer writeOutput
-returns-2 c = wrote _ _ (sym (c .before .before .before .before .before .before .write-checked .ensures) ∙ c .before .before .before .before .enum-told .given .1) (c .before .before .put-section .ensures)
+returns-2 c = alone _ _ _ _ _ (pic1-alone _ _ _ (c .before .before .before .before .before .before .before .before .before .before .before .before .args .r) _ _ _ _ _ (c .before .before .before .before .enum-told2 .given .1)) (c .before .before .write-pic1 .ensures)
+
+same-length-3 : tie.Need-same-length-3
+same-length-3 c = search needs
+
+returns-3 : tie.Need-returns-3
+returns-3 c = alone _ _ _ _ _ (txt1-alone _ _ _ (c .before .before .before .before .before .before .before .before .before .before .before .before .args .r) _ _ _ _ _ (c .before .before .before .before .enum-told3 .given .1)) (c .before .before .write-txt1 .ensures)
+
+same-length-4 : tie.Need-same-length-4
+same-length-4 c = search needs
+
+returns-4 : tie.Need-returns-4
+returns-4 c = alone _ _ _ _ _ (wnd1-alone _ _ _ (c .before .before .before .before .before .before .before .before .before .before .before .before .args .r) _ _ _ _ _ (c .before .before .before .before .enum-told4 .given .1)) (c .before .before .write-wnd1 .ensures)
+
+same-length-5 : tie.Need-same-length-5
+same-length-5 c = search needs
+
+returns-5 : tie.Need-returns-5
+returns-5 c = alone _ _ _ _ _ (ali1-alone _ _ _ (c .before .before .before .before .before .before .before .before .before .before .before .before .args .r) _ _ _ _ _ (c .before .before .before .before .enum-told5 .given .1)) (c .before .before .write-ali1 .ensures)
 
 pub write-section-spec : {M : Type 1} → statement M
 write-section-spec =
     tie.close
     (tie.spec
-    typed-text-box-requires
-    write-checked-requires
-    enum-known-p
     enum-told
-    put-section-requires
-    returns
+    write-pan1-requires
+    enum-told-2
+    write-pic1-requires
+    enum-told-3
+    write-txt1-requires
+    enum-told-4
+    write-wnd1-requires
+    enum-told-5
+    write-ali1-requires
     same-length
-    returns-2)
+    returns
+    same-length-2
+    returns-2
+    same-length-3
+    returns-3
+    same-length-4
+    returns-4
+    same-length-5
+    returns-5)

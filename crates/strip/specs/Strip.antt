@@ -11,7 +11,6 @@ use Rattle.strip_kinds.specs.Whole.{Lists, Full, Whole}
 use Rattle.strip.specs.Same.{Same, readWhole}
 use Rattle.strip_read.specs.Read.{readSection, listsAfter}
 use Rattle.strip_write.specs.Write.{writeAnswer, writeOutput}
-use Rattle.strip_read.specs.declared.read.SectionRead.{SectionRead}
 use Rattle.strip_read.specs.declared.read.Section.the-variants as Sections
 
 unfoldable pub All : {A : Type 0} → (A → Type 0) → List A → Type 0

@@ -1,6 +1,6 @@
 -- A section write: what it answers, and the output after it.
-use Prim.Native.Nat.{ℕ, _+_, _<_}
-use mathlib.Core.List.{List, [], _∷_, _++_}
+use Prim.Native.Nat.{ℕ, _+_}
+use mathlib.Core.List.{List, _++_}
 use lib.ListN.{length, replicate}
 use Rattle.core.specs.Bytes.{bytesOf, padding, splice}
 use Rattle.core.specs.Taken.{start}
@@ -11,13 +11,13 @@ use Rattle.core.specs.declared.cursor.Place.the-variants.{At}
 use Rattle.core.specs.declared.checks.Written.{Written}
 use Rattle.pane.specs.Pane.{encodePane}
 use Rattle.pane.specs.Checks.{namesChecked, reserveChecked}
-use Rattle.picture.specs.Picture.{pictureChecked, GoodPicture}
+use Rattle.picture.specs.Picture.{pictureChecked}
 use Rattle.picture.specs.Body as picture
 use Rattle.text_box_read.specs.Parts.{labelPart}
 use Rattle.text_box.specs.Checks.{labelLengthChecked, labelNameChecked, textBoxChecked}
-use Rattle.text_box_write.specs.Written.{Small, textBoxLength}
+use Rattle.text_box_write.specs.Written.{textBoxLength}
 use Rattle.text_box.specs.Body as text-box
-use Rattle.window_write.specs.Write.{windowChecked, GoodWindow}
+use Rattle.window_write.specs.Write.{windowChecked}
 use Rattle.window.specs.Body as window
 use Rattle.alignment.specs.Body as alignment
 use Rattle.strip_kinds.specs.Kinds.{letterBytes}
@@ -81,14 +81,6 @@ ownChecked Pic1 p w = pictureChecked p (w .lists .quads)
 ownChecked Txt1 p w = textBoxChecked p (w .pane .«text_box») (w .lists .units) (w .lists .lines)
 ownChecked Wnd1 p w = windowChecked p (w .lists .quads) (w .lists .frames)
 ownChecked Ali1 p w = p
-
--- what the bytes of a kind ask of its lists and label
-unfoldable pub GoodOwn : Kind → Whole → Type 0
-GoodOwn Pan1 w = Unit {0}
-GoodOwn Pic1 w = GoodPicture (w .lists .quads)
-GoodOwn Txt1 w = Small (w .pane .«text_box») (w .lists .units) (w .lists .lines) (w .label)
-GoodOwn Wnd1 w = GoodWindow (w .lists .quads) (w .lists .frames)
-GoodOwn Ali1 w = Unit {0}
 
 -- 1 (the output, then a label), 2, 9 (names, then a label), 10, the kind's own, and 16 of a write into n bytes
 unfoldable pub writeChecked : Whole → ℕ → ℕ → Place

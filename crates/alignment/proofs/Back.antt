@@ -1,17 +1,15 @@
 -- An alignment pane's own fields are read back, anywhere in a buffer.
-use mathlib.Core.Path.{_≡_, refl, sym, ap, _∙_}
-use Prim.Native.Nat.{ℕ, _+_, _^_, _≤_, _<_}
+use mathlib.Core.Path.{_≡_, refl}
+use Prim.Native.Nat.{ℕ, _+_, _^_, _<_}
 use native.Mathlib.Nat.{add-zero}
 use native.Mathlib.Omega.{arith}
 use mathlib.Core.Bool.{Bool, true, false}
-use mathlib.Core.List.{List, _++_}
+use mathlib.Core.List.{List}
 use lib.ListN.{length, length-append}
 use lib.Dec.{lit≤}
-use Rattle.core.specs.Bytes.{bytesOf}
-use Rattle.core.specs.Taken.{advanced, numberTaken}
+use Rattle.core.specs.Taken.{advanced}
 use Rattle.core.specs.declared.cursor.ByteOrder.{ByteOrder}
 use Rattle.core.specs.declared.cursor.Cursor.{Cursor}
-use Rattle.core.specs.declared.cursor.Place.{Place}
 use Rattle.core.specs.declared.cursor.Place.the-variants.{At}
 use Rattle.core.proofs.Numbers.{length-bytes}
 use Rattle.core.proofs.Cursors.{advanced-zero}

@@ -1,5 +1,5 @@
 -- The body read as the code takes it.
-use mathlib.Core.Path.{_≡_, refl, sym, ap, _∙_}
+use mathlib.Core.Path.{_≡_, refl}
 use Prim.Native.Nat.{ℕ}
 use mathlib.Core.List.{List}
 use lib.ListN.{length}
@@ -11,12 +11,12 @@ use Rattle.core.specs.declared.cursor.Cursor.{Cursor}
 use Rattle.core.specs.declared.cursor.Place.{Place}
 use Rattle.core.specs.declared.cursor.Place.the-variants.{At, Refused}
 use Rattle.core.specs.declared.checks.Parsed.the-variants as Parseds
-use Rattle.pane.specs.Pane.{paneTaken, blankPane}
+use Rattle.pane.specs.Pane.{paneTaken}
 use Rattle.pane.specs.Checks.{textsChecked}
 use Rattle.pane.specs.declared.PaneTaken.{PaneTaken}
 use Rattle.pane.proofs.Run.{pane-stays}
 use Rattle.pane.proofs.Calls.{texts-stay}
-use Rattle.alignment.specs.Alignment.{alignmentTaken, blankAlignment}
+use Rattle.alignment.specs.Alignment.{alignmentTaken}
 use Rattle.alignment.specs.Body.{Blank, alignmentRead, alignmentParsed}
 use Rattle.alignment.specs.declared.AlignmentTaken.{AlignmentTaken}
 use Rattle.alignment.specs.declared.body.AlignmentParsed.{AlignmentParsed}

@@ -1,6 +1,6 @@
 -- What an alignment pane has beyond the base, 12 bytes: direction u32, margin float, two bool bytes (nonzero is true), u16 0.
 use Prim.Native.Nat.{ℕ, _^_, _<_}
-use mathlib.Core.Bool.{Bool, true, false, not, cond}
+use mathlib.Core.Bool.{Bool, false, not, cond}
 use mathlib.Core.List.{List, _++_}
 use lib.Dec.{eqb}
 use Rattle.core.specs.Bytes.{bytesOf}

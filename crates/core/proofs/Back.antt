@@ -1,23 +1,22 @@
 -- What was put is read back: where a list of bytes stands in another, its parts, and the reads of a number, a list of numbers and strings there.
-use mathlib.Core.Path.{_≡_, refl, sym, ap, _∙_, subst}
+use mathlib.Core.Path.{_≡_, refl, sym, ap, _∙_}
 use Prim.Native.Nat.{ℕ, zero, suc, _+_, _-_, _*_, _^_, _≤_, _<_}
 use native.Mathlib.Omega.{arith}
 use mathlib.Core.Bool.{Bool, true, false, cond}
-use mathlib.Core.List.{List, [], _∷_, _++_, append-assoc, append-nil}
-use lib.ListN.{length, take, drop, getD, replicate, length-append, length-replicate}
+use mathlib.Core.List.{List, [], _∷_, _++_, append-assoc}
+use lib.ListN.{length, take, drop, replicate, length-append, length-replicate}
 use lib.Seq.{take-at, drop-at, take-append-seam}
 use lib.Dec.{eqb, lit≤}
-use borrow.Author.Tests.{le-leb, lt-ltb, eq-eqb, ne-eqb}
+use borrow.Author.Tests.{le-leb, lt-ltb}
 use native.Mathlib.Nat.{add-assoc, mul-suc, mul-zero}
-use Rattle.core.specs.Bytes.{spelled, bytesOf, bytesOfAll, part, numberAt, fixed}
+use Rattle.core.specs.Bytes.{bytesOf, bytesOfAll, part, numberAt, fixed}
 use Rattle.core.specs.Taken.{Taken, advanced, numberTaken, stringTaken, labelTaken, upToNul, hasZero, string24Of, string8Of, string24Taken, string8Taken}
 use Rattle.core.specs.declared.text.String24Taken.{String24Taken}
 use Rattle.core.specs.declared.text.String8Taken.{String8Taken}
 use Rattle.core.specs.Lists.{numbersTaken}
 use Rattle.core.specs.declared.cursor.Cursor.{Cursor}
 use Rattle.core.specs.declared.cursor.ByteOrder.{ByteOrder}
-use Rattle.core.specs.declared.cursor.Place.{Place}
-use Rattle.core.specs.declared.cursor.Place.the-variants.{At, Refused}
+use Rattle.core.specs.declared.cursor.Place.the-variants.{At}
 use Rattle.core.proofs.Numbers.{length-bytes, spelled-bytes}
 use Rattle.core.proofs.Cursors.{pos-advanced, advanced-zero, advanced-more}
 

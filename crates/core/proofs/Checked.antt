@@ -1,22 +1,25 @@
 -- What passed checks tell, and what lets a check pass.
-use mathlib.Core.Path.{_≡_, refl, sym, ap, _∙_}
-use Prim.Native.Nat.{ℕ, _+_, _%_, _≤_, _<_}
+use mathlib.Core.Path.{_≡_, refl}
+use Prim.Native.Nat.{ℕ, _+_, _*_, _%_, _≤_}
 use mathlib.Core.List.{List}
 use native.Mathlib.Omega.{arith}
-use mathlib.Core.Bool.{Bool, true, false}
+use mathlib.Core.Bool.{Bool, true, false, _||_}
 use lib.Dec.{ltb}
 use borrow.Author.Tests.{ltb-false, le-ltb}
 use Rattle.core.specs.Taken.{start, stopIf}
-use Rattle.core.specs.Checks.{lengthChecked, bodyChecked, sectionChecked, bodyStart, sectionStart, listChecked, endChecked, unlessRefused, writtenOf}
+use Rattle.core.specs.Checks.{lengthChecked, bodyChecked, sectionChecked, bodyStart, sectionStart, listChecked, countBad, countChecked, endChecked, unlessRefused, writtenOf}
 use Rattle.core.specs.Bytes.{splice, Put}
 use Rattle.core.specs.declared.error.Refusal.{Refusal}
 use Rattle.core.specs.declared.error.Refusal.the-variants.{OutputEnd}
-use Rattle.core.specs.declared.checks.Written.{Written}
 use Rattle.core.specs.declared.checks.Written.the-variants as Writtens
 use Rattle.core.specs.declared.cursor.Cursor.{Cursor}
 use Rattle.core.specs.declared.cursor.Place.{Place}
 use Rattle.core.specs.declared.cursor.Place.the-variants.{At, Refused}
 use Rattle.core.proofs.Runs.{cleared, passed}
+
+pub or-false : (a b : Bool) → (a || b) ≡ false → (a ≡ false) × (b ≡ false)
+or-false true b e = (e, cc)
+or-false false b e = (refl, e)
 
 -- ---- passed
 
@@ -42,6 +45,14 @@ section-cleared p n place c e =
 pub list-cleared : (p : Place) (list need n : ℕ) (c : Cursor) → listChecked p list need n ≡ At c → (p ≡ At c) × (need ≤ n)
 unfolding listChecked
 list-cleared p list need n c e = let h = cleared p _ _ c e in (h .0, ltb-false _ _ (h .1))
+
+pub count-cleared : (p : Place) (list w n : ℕ) (c : Cursor) → countChecked p list w n ≡ At c → (p ≡ At c) × (n % w ≡ 0) × (n ≤ 255 * w)
+unfolding countChecked countBad
+count-cleared p list w n c e =
+    let h = cleared p _ _ c e in
+    let k = or-false _ _ (h .1) in
+    let z : n % w ≤ 0 = ltb-false _ _ (k .0) in
+    (h .0, omega (arith, z), ltb-false _ _ (k .1))
 
 pub end-cleared : (p : Place) (end n : ℕ) (c : Cursor) → endChecked p end n ≡ At c → (p ≡ At c) × (end ≤ n)
 unfolding endChecked

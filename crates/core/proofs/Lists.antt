@@ -1,7 +1,7 @@
 -- Runs of numbers, for every width together.
 use mathlib.Core.Path.{_≡_, refl, sym, ap, _∙_}
 use mathlib.Core.List.{List, [], _∷_, _++_, append-assoc}
-use Prim.Native.Nat.{ℕ, zero, suc, _+_, _-_, _*_, _≤_, _<_}
+use Prim.Native.Nat.{ℕ, zero, suc, _+_, _*_, _≤_, _<_}
 use native.Mathlib.Nat.{mul-suc, mul-zero}
 use native.Mathlib.Numerals.{add-one}
 use native.Mathlib.Omega.{arith}
@@ -17,7 +17,7 @@ use Rattle.core.specs.declared.cursor.Cursor.{Cursor}
 use Rattle.core.specs.declared.cursor.Place.{Place}
 use Rattle.core.specs.declared.cursor.Place.the-variants.{At, Refused}
 use Rattle.core.proofs.Cursors.{pos-advanced, advanced-zero, advanced-more}
-use Rattle.core.proofs.Runs.{got, short, stays}
+use Rattle.core.proofs.Runs.{got, short}
 
 module _ (order : ByteOrder) (w : ℕ) (s : List ℕ) where
   -- one number, where its bytes are there

@@ -2,9 +2,9 @@
 use mathlib.Core.Path.{_≡_}
 use Prim.Native.Nat.{ℕ, _+_, _%_, _≤_, _<_}
 use native.Mathlib.Omega.{arith}
-use Rattle.core.specs.Bytes.{padding, aligned}
+use Rattle.core.specs.Bytes.{padding}
 
-pub padding-reaches : (p : ℕ) → aligned p % 4 ≡ 0
+pub padding-reaches : (p : ℕ) → (p + padding p) % 4 ≡ 0
 unfolding padding
 padding-reaches p = omega arith
 

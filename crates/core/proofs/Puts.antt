@@ -1,10 +1,10 @@
 -- The laws of `splice` and `Put`: bytes put one after the other, what is left as it was, what is read back.
 use mathlib.Core.Path.{_≡_, refl, sym, ap, _∙_}
-use Prim.Native.Nat.{ℕ, zero, suc, _+_, _-_, _*_, _≤_, _<_}
-use native.Mathlib.Nat.{add-comm, add-zero, mul-suc}
+use Prim.Native.Nat.{ℕ, suc, _+_, _-_, _≤_, _<_}
+use native.Mathlib.Nat.{add-zero}
 use native.Mathlib.Omega.{arith}
 use mathlib.Core.List.{List, [], _∷_, _++_, append-assoc, append-nil}
-use lib.ListN.{length, take, drop, set, getD, replicate, length-append, length-set, length-replicate, replicate-append-replicate}
+use lib.ListN.{length, take, drop, set, getD, replicate, length-append, length-set, replicate-append-replicate}
 use lib.Seq.{take-suc, sets, sets-eq, take-at, drop-at, length-take-le, take-append-seam}
 use native.Mathlib.Numerals.{add-one}
 use Rattle.core.specs.Bytes.{bytesOf, bytesOfAll, fixed, splice, Put}

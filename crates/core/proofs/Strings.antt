@@ -2,16 +2,16 @@
 use mathlib.Core.Path.{_≡_, refl, sym, ap, _∙_}
 use mathlib.Core.List.{List, [], _∷_, _++_}
 use Prim.Native.Nat.{ℕ, zero, suc, _+_, _-_, _≤_, _<_, zero-le}
-use native.Mathlib.Nat.{le-of-suc-le-suc, not-suc-le-zero, le-antisymm}
+use native.Mathlib.Nat.{le-of-suc-le-suc, not-suc-le-zero}
 use native.Mathlib.Numerals.{add-one}
 use native.Mathlib.Omega.{arith}
 use borrow.Author.Tests.{eq-eqb, ne-eqb, lt-ltb, le-ltb}
-use mathlib.Core.Bool.{Bool, true, false, cond}
+use mathlib.Core.Bool.{true, false, cond}
 use lib.Dec.{eqb}
 use borrow.Author.Count.{below-more}
 use lib.Seq.{length-take-le, take-all, drop-cons}
 use lib.ListN.{length, take, drop, getD, set, length-set, length-drop, drop-of-length-le}
-use Rattle.core.specs.Taken.{advanced, upToNul, over, hasZero, labelTaken, asCount}
+use Rattle.core.specs.Taken.{advanced, upToNul, hasZero, labelTaken, asCount}
 use Rattle.core.specs.declared.error.Refusal.{Refusal}
 use Rattle.core.specs.declared.error.Refusal.the-variants.{NoNul}
 use Rattle.core.specs.declared.cursor.Cursor.{Cursor}

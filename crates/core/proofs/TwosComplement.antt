@@ -1,11 +1,11 @@
 -- A signed number of 16 bits and its bits: what the two conversions compute, and that they are each other's inverse.
 use mathlib.Core.Path.{_≡_, refl, sym, ap, subst, _∙_}
 use mathlib.Core.Bool.{Bool, true, false, cond}
-use Prim.Native.Nat.{ℕ, zero, suc, _+_, _-_, _<_, _≤_, _^_}
+use Prim.Native.Nat.{ℕ, zero, suc, _-_, _<_, _≤_, _^_}
 use native.Mathlib.Omega.{arith}
 use borrow.Author.Tests.{lt-ltb, le-ltb, ltb-true, ltb-false}
 use borrow.Author.Needs.{sfits-of}
-use lib.IntN.{ℤ, pos, negsuc, _-ℤ_, _+ℤ_, natAbs, predℤ, sucℤ, negℤ, +ℤ-idl, -ℤ-one, +ℤ-one, negℤ-negℤ}
+use lib.IntN.{ℤ, pos, negsuc, _-ℤ_, _+ℤ_, natAbs, predℤ, +ℤ-idl, -ℤ-one, +ℤ-one}
 use lib.Dec.{T, lit<, ltb}
 use lib.Signed.{nonNeg, ltZ, mag}
 use mir.Syntax.{w16}

@@ -55,12 +55,9 @@ fixed w s = s ++ replicate (w - length s) 0
 
 -- ---- places
 
--- how many bytes are lacking from a place to a multiple of 4, and that multiple
+-- how many bytes are lacking from a place to a multiple of 4
 unfoldable pub padding : ℕ → ℕ
 padding p = (4 - p % 4) % 4
-
-abbrev pub aligned : ℕ → ℕ
-aligned p = p + padding p
 
 -- w bytes have room at p in o
 abbrev pub Room : List ℕ → ℕ → ℕ → Type 0

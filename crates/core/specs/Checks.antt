@@ -1,9 +1,9 @@
 -- The checks that calls share, in the order of document 01's table, and what calls answer.
-use Prim.Native.Nat.{ℕ, _%_}
-use mathlib.Core.List.{List}
+use Prim.Native.Nat.{ℕ, _*_, _%_}
+use mathlib.Core.Bool.{Bool, _||_}
 use lib.Dec.{ltb}
 use Rattle.core.specs.Taken.{start, stopIf}
-use Rattle.core.specs.declared.error.Refusal.the-variants.{TooLong, BadPlace, ShortList, OutputEnd}
+use Rattle.core.specs.declared.error.Refusal.the-variants.{TooLong, BadPlace, ShortList, ListLength, OutputEnd}
 use Rattle.core.specs.declared.cursor.Place.{Place}
 use Rattle.core.specs.declared.cursor.Place.the-variants.{At, Refused}
 use Rattle.core.specs.declared.checks.Parsed.{Parsed}
@@ -33,6 +33,13 @@ sectionStart n place = sectionChecked (lengthChecked (At (start place)) n) n pla
 -- 3: a lent list of n numbers is short of its need
 unfoldable pub listChecked : Place → ℕ → ℕ → ℕ → Place
 listChecked p list need n = stopIf p (ltb n need) (ShortList list need)
+
+-- 11: a list to write of n numbers, width an entry, is no whole number of entries, or more than 255 of them
+unfoldable pub countBad : ℕ → ℕ → Bool
+countBad width n = ltb 0 (n % width) || ltb (255 * width) n
+
+unfoldable pub countChecked : Place → ℕ → ℕ → ℕ → Place
+countChecked p list width n = stopIf p (countBad width n) (ListLength list n)
 
 -- 16: the end passes the output's length n
 unfoldable pub endChecked : Place → ℕ → ℕ → Place

@@ -4,8 +4,8 @@ use crate::cursor::Cursor;
 use crate::cursor::Place;
 use crate::error::Refusal;
 ghost use mathlib.Core.Path.{_≡_};
-ghost use Prim.Native.Nat.{_+_, _^_, _<_};
-ghost use Rattle.core.specs.Checks.{lengthChecked, bodyChecked, sectionChecked, bodyStart, sectionStart, listChecked, endChecked, parsedOf};
+ghost use Prim.Native.Nat.{_+_, _^_, _≤_, _<_};
+ghost use Rattle.core.specs.Checks.{lengthChecked, bodyChecked, sectionChecked, bodyStart, sectionStart, listChecked, countChecked, endChecked};
 
 // What a body read answers: the place after the body, or why not.
 pub enum Parsed {
@@ -65,6 +65,18 @@ pub fn list_checked(p: Place, list: usize, need: usize, length: usize) -> Place
     cursor::stop_if(p, length < need, Refusal::ShortList { list, need })
 }
 
+// 11: a list to write that is not width times n numbers, n at most 255.
+pub fn count_checked(p: Place, list: usize, width: usize, length: usize) -> Place
+    requires { ⌜ (0 < width) × (width ≤ 8) ⌝ }
+    ensures { λ r. ⌜ r ≡ countChecked p list width length ⌝ }
+{
+    cursor::stop_if(
+        p,
+        (0 < length % width) | (255 * width < length),
+        Refusal::ListLength { list, length },
+    )
+}
+
 // 16: the end of width bytes at a place, where it passes the output.
 pub fn end_checked(p: Place, place: usize, width: usize, length: usize) -> Place
     requires { ⌜ ((c : Cursor) → p ≡ Place.At c → place + width < 2 ^ 64) ⌝ }
@@ -80,18 +92,5 @@ pub fn end_checked(p: Place, place: usize, width: usize, length: usize) -> Place
             )
         }
         Place::Refused(why) => Place::Refused(why),
-    }
-}
-
-// What a body read answers where a run stands.
-pub fn parsed_of(p: Place) -> Parsed
-    ensures { λ r. ⌜ r ≡ parsedOf p ⌝ }
-{
-    match p {
-        Place::At(c) => {
-            let end = c.pos;
-            Parsed::Read { end }
-        }
-        Place::Refused(why) => Parsed::Refused(why),
     }
 }

@@ -5,9 +5,9 @@ use crate::text::FixedString8;
 use crate::text::FixedString24;
 ghost use mathlib.Core.Path.{_≡_};
 ghost use mathlib.Core.List.{[], _∷_};
-ghost use Prim.Native.Nat.{_+_, _^_, _≤_, _<_};
+ghost use Prim.Native.Nat.{_+_, _≤_, _<_};
 ghost use lib.ListN.{length, take, replicate};
-ghost use Rattle.core.specs.Bytes.{bytesOf, bitsOf, fixed, padding, aligned, Room, Put};
+ghost use Rattle.core.specs.Bytes.{bytesOf, bitsOf, fixed, padding, Room, Put};
 
 // ---- numbers
 
@@ -143,14 +143,6 @@ pub fn padding_at(p: usize) -> usize
     ensures { λ r. ⌜ r ≡ padding p ⌝ }
 {
     (4 - p % 4) % 4
-}
-
-// The place after the padding.
-pub fn aligned_at(p: usize) -> usize
-    requires { ⌜ p + 3 < 2 ^ 64 ⌝ }
-    ensures { λ r. ⌜ r ≡ aligned p ⌝ }
-{
-    p + padding_at(p)
 }
 
 pub fn put_padding(out: &mut [u8], p: usize) -> usize

@@ -1,9 +1,9 @@
 -- The base pane, 76 bytes: its read field by field, and its bytes.
-use Prim.Native.Nat.{ℕ, _+_, _≤_}
-use mathlib.Core.List.{List, [], _∷_, _++_}
-use lib.ListN.{length, take, replicate}
+use Prim.Native.Nat.{ℕ, _≤_}
+use mathlib.Core.List.{List, _++_}
+use lib.ListN.{take, replicate}
 use Rattle.core.specs.Bytes.{bytesOf, fixed}
-use Rattle.core.specs.Taken.{u8Taken, string24Of, string8Of, string24Taken, string8Taken}
+use Rattle.core.specs.Taken.{u8Taken, string24Taken, string8Taken}
 use Rattle.core.specs.declared.cursor.ByteOrder.{ByteOrder}
 use Rattle.core.specs.declared.cursor.Place.{Place}
 use Rattle.core.specs.declared.cursor.U8Taken.{U8Taken}

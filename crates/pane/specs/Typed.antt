@@ -1,6 +1,6 @@
 -- What the types of the code guarantee of a base pane.
 use mathlib.Core.Path.{_≡_}
-use Prim.Native.Nat.{ℕ, _<_}
+use Prim.Native.Nat.{_<_}
 use lib.ListN.{length}
 use Rattle.ui2d.specs.Typed.{TypedVector2, TypedVector3}
 use Rattle.pane.specs.declared.Pane.{Pane}

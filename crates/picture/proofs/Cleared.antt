@@ -1,38 +1,27 @@
 -- What the checks of a write tell.
-use mathlib.Core.Path.{_≡_, refl, sym, _∙_}
-use Prim.Native.Nat.{ℕ, _+_, _%_, _^_, _≤_, _<_}
+use mathlib.Core.Path.{_≡_, sym, _∙_}
+use Prim.Native.Nat.{ℕ, _+_, _^_, _≤_, _<_}
 use native.Mathlib.Omega.{arith}
-use mathlib.Core.Bool.{Bool, true, false, not, _||_}
 use mathlib.Core.List.{List}
 use lib.ListN.{length}
-use lib.Dec.{eqb, ltb}
-use borrow.Author.Tests.{eqb-true, ltb-false, not-false}
 use Rattle.core.specs.Checks.{bodyStart, endChecked}
 use Rattle.core.specs.declared.error.Refusal.{Refusal}
 use Rattle.core.specs.declared.cursor.Cursor.{Cursor}
 use Rattle.core.specs.declared.cursor.Place.{Place}
 use Rattle.core.specs.declared.cursor.Place.the-variants.{At, Refused}
-use Rattle.core.proofs.Runs.{cleared}
-use Rattle.core.proofs.Checked.{BodyOk, body-started, end-cleared, end-stays}
+use Rattle.core.proofs.Checked.{BodyOk, body-started, count-cleared, end-cleared, end-stays}
 use Rattle.pane.specs.Checks.{namesChecked, reserveChecked}
 use Rattle.pane.specs.declared.Pane.{Pane}
 use Rattle.pane.proofs.Cleared.{Good, base-cleared}
-use Rattle.picture.specs.Picture.{quadsBad, pictureChecked, GoodPicture, pictureLength}
+use Rattle.picture.specs.Picture.{pictureChecked, GoodPicture, pictureLength}
 use Rattle.picture.specs.Body.{bodyLength, pictureWriteChecked}
 use Rattle.picture.specs.declared.PicturePane.{PicturePane}
 use Rattle.picture.proofs.Run.{shape-short}
 
-or-false : (a b : Bool) → (a || b) ≡ false → (a ≡ false) × (b ≡ false)
-or-false true b e = (e, cc)
-or-false false b e = (refl, e)
-
 -- check 11
 pub picture-cleared : (p : Place) (quads : List ℕ) (c : Cursor) → pictureChecked p quads ≡ At c → (p ≡ At c) × GoodPicture quads
-unfolding pictureChecked quadsBad
-picture-cleared p quads c e =
-    let (h, k) = cleared p _ _ c e in
-    let (w, f) = or-false (not (eqb (length quads % 8) 0)) (ltb 2040 (length quads)) k in
-    (h, record { whole = eqb-true _ _ (not-false _ w); few = ltb-false _ _ f })
+unfolding pictureChecked
+picture-cleared p quads c e = let (h, w, f) = count-cleared p 1 8 (length quads) c e in (h, record { whole = w; few = f })
 
 -- a body that passed it is no long one
 pub picture-short : (x : PicturePane) (quads : List ℕ) → GoodPicture quads → pictureLength x quads ≤ 8184

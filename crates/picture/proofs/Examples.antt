@@ -7,24 +7,25 @@ use lib.ListN.{replicate}
 use Rattle.core.specs.Bytes.{numberAt, spelled, part}
 use Rattle.core.specs.Taken.{start, advanced, numberTaken}
 use Rattle.core.specs.Lists.{numbersTaken}
+use Rattle.core.specs.Checks.{countBad}
 use Rattle.core.specs.declared.error.Refusal.the-variants.{UnexpectedEof}
 use Rattle.core.specs.declared.cursor.ByteOrder.the-variants.{Little}
 use Rattle.core.specs.declared.cursor.Place.the-variants.{At, Refused}
 use Rattle.ui2d.specs.Parts.{colorsTaken, colorTaken}
-use Rattle.picture.specs.Picture.{shapeTaken, pictureTaken, quadsBad, shapeByte}
+use Rattle.picture.specs.Picture.{shapeTaken, pictureTaken, shapeByte}
 use Rattle.picture.specs.declared.ShapeIndex.the-variants.{Index}
 
 -- 255 quads are written, 256 refused by 11, and so is a part of a quad
-most-quads : quadsBad 2040 ≡ false
-unfolding quadsBad
+most-quads : countBad 8 2040 ≡ false
+unfolding countBad
 most-quads = refl
 
-too-many-quads : quadsBad 2048 ≡ true
-unfolding quadsBad
+too-many-quads : countBad 8 2048 ≡ true
+unfolding countBad
 too-many-quads = refl
 
-part-of-quad : quadsBad 7 ≡ true
-unfolding quadsBad
+part-of-quad : countBad 8 7 ≡ true
+unfolding countBad
 part-of-quad = refl
 
 -- no quads, shape byte 7, and the index 258 after it: 24 bytes, of which the byte is written 1

@@ -1,14 +1,14 @@
 -- What a picture has beyond the base: four vertex colours, material u16, quad count u8, shape byte, quads, and a u32 shape index if the byte is nonzero.
 use mathlib.Core.Path.{_≡_}
 use Prim.Native.Nat.{ℕ, _+_, _*_, _/_, _%_, _≤_}
-use mathlib.Core.Bool.{Bool, not, _||_, cond}
+use mathlib.Core.Bool.{cond}
 use mathlib.Core.List.{List, [], _∷_, _++_}
 use lib.ListN.{length}
-use lib.Dec.{eqb, ltb}
+use lib.Dec.{eqb}
 use Rattle.core.specs.Bytes.{bytesOf, bytesOfAll, Room}
-use Rattle.core.specs.Taken.{Taken, stopIf, u8Taken, u16Taken, u32Taken}
+use Rattle.core.specs.Taken.{Taken, u8Taken, u16Taken, u32Taken}
+use Rattle.core.specs.Checks.{countChecked}
 use Rattle.core.specs.Lists.{numbersTaken}
-use Rattle.core.specs.declared.error.Refusal.the-variants.{ListLength}
 use Rattle.core.specs.declared.cursor.ByteOrder.{ByteOrder}
 use Rattle.core.specs.declared.cursor.Cursor.{Cursor}
 use Rattle.core.specs.declared.cursor.Place.{Place}
@@ -81,13 +81,9 @@ blankPicture = record {
 
 -- ---- writing
 
--- not 8n numbers with n at most 255
-unfoldable pub quadsBad : ℕ → Bool
-quadsBad numbers = not (eqb (numbers % 8) 0) || ltb (8 * 255) numbers
-
--- 11: list 1
+-- 11: quads not 8n numbers, n at most 255: list 1
 unfoldable pub pictureChecked : Place → List ℕ → Place
-pictureChecked p quads = stopIf p (quadsBad (length quads)) (ListLength 1 (length quads))
+pictureChecked p quads = countChecked p 1 8 (length quads)
 
 -- what check 11 leaves
 pub record GoodPicture (quads : List ℕ) : Type 0 where

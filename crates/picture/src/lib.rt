@@ -3,10 +3,10 @@ pub mod body;
 
 pub use body::parse;
 pub use body::write;
+use core::checks;
 use core::cursor;
 use core::cursor::ByteOrder;
 use core::cursor::Place;
-use core::error::Refusal;
 use core::list;
 use core::writer;
 use ui2d::Color4u8;
@@ -136,12 +136,7 @@ pub fn blank_picture() -> PicturePane
 pub fn picture_checked(p: Place, quads: &[u32]) -> Place
     ensures { λ r. ⌜ r ≡ pictureChecked p (now (quads .entry)) ⌝ }
 {
-    let length = quads.len();
-    cursor::stop_if(
-        p,
-        (length % 8 != 0) | (2040 < length),
-        Refusal::ListLength { list: 1, length },
-    )
+    checks::count_checked(p, 1, 8, quads.len())
 }
 
 fn shape_byte(x: ShapeIndex) -> u8

@@ -1,18 +1,17 @@
 -- What the checks of a write that were passed tell of a text box.
 use mathlib.Core.Path.{_≡_, refl, sym}
 use mathlib.Core.List.{List}
-use mathlib.Core.Bool.{Bool, true, false, not, _||_}
+use mathlib.Core.Bool.{Bool, true, false, not}
 use Prim.Native.Nat.{ℕ, _/_, _%_, _^_, _≤_, _<_}
 use native.Mathlib.Omega.{arith}
 use lib.ListN.{length}
-use lib.Dec.{ltb}
-use borrow.Author.Tests.{ltb-false, not-false, eqb-true}
+use borrow.Author.Tests.{not-false, eqb-true}
 use Rattle.core.specs.Taken.{hasZero}
 use Rattle.core.specs.declared.cursor.Cursor.{Cursor}
 use Rattle.core.specs.declared.cursor.Place.{Place}
 use Rattle.core.specs.declared.cursor.Place.the-variants.{At}
 use Rattle.core.proofs.Runs.{cleared}
-use Rattle.core.proofs.Checked.{length-cleared}
+use Rattle.core.proofs.Checked.{or-false, length-cleared, count-cleared}
 use Rattle.unicode.specs.Utf8.{wellFormed}
 use Rattle.unicode.specs.Utf16.{utf16Of, isWellFormed, wellFormed16}
 use Rattle.unicode.specs.declared.utf16.Utf16.{Utf16}
@@ -22,11 +21,7 @@ use Rattle.text_box_read.specs.declared.LineTable.the-variants as lines
 use Rattle.text_box_read.specs.declared.TextBoxPane.{TextBoxPane}
 use Rattle.text_box_read.specs.Parts.{Part, absent, present, textPart, labelPart, linePart}
 use Rattle.text_box_write.specs.Written.{Few, Small}
-use Rattle.text_box.specs.Checks.{labelLengthChecked, labelBad, labelNameChecked, linesBad, unitsBad, bitBad, faultChecked, utf16Checked, textBoxChecked}
-
-or-false : (a b : Bool) → (a || b) ≡ false → (a ≡ false) × (b ≡ false)
-or-false true b e = (e, cc)
-or-false false b e = (refl, e)
+use Rattle.text_box.specs.Checks.{labelLengthChecked, labelBad, labelNameChecked, linesChecked, unitsBad, bitBad, faultChecked, utf16Checked, textBoxChecked}
 
 -- ---- what the checks leave of each part
 
@@ -71,13 +66,10 @@ label-name-cleared p name c e = let h = cleared p _ _ c e in (h .0, good-label n
 
 -- ---- 11, 13, 14 and 15
 
-good-lines : (table : Part) → linesBad table ≡ false → GoodLines table
-unfolding linesBad
-good-lines absent e = tt
-good-lines (present l) e =
-    let h = or-false (ltb 0 (length l % 2)) (ltb 510 (length l)) e in
-    let z : length l % 2 ≤ 0 = ltb-false _ _ (h .0) in
-    (omega arith, ltb-false _ _ (h .1))
+lines-cleared : (p : Place) (table : Part) (c : Cursor) → linesChecked p table ≡ At c → (p ≡ At c) × GoodLines table
+unfolding linesChecked
+lines-cleared p absent c e = (e, tt)
+lines-cleared p (present l) c e = let (h, w, f) = count-cleared p 3 2 (length l) c e in (h, (w, f))
 
 fault-cleared : (p : Place) (u : Utf16) (c : Cursor) → faultChecked p u ≡ At c → (p ≡ At c) × (isWellFormed u ≡ true)
 unfolding faultChecked
@@ -99,7 +91,7 @@ pub text-box-early : (p : Place) (x : TextBoxPane) (units lines : List ℕ) (c :
 unfolding textBoxChecked
 text-box-early p x units lines c e =
     let t = text-cleared _ (x .«text_length») (textPart (x .text) units) c (cleared _ _ _ c e .0) in
-    cleared p _ _ c (cleared _ _ _ c (t .0) .0) .0
+    lines-cleared p (linePart (x .«line_table») lines) c (cleared _ _ _ c (t .0) .0) .0
 
 pub text-box-cleared : (p : Place) (x : TextBoxPane) (units lines label : List ℕ) (c : Cursor) → textBoxChecked p x units lines ≡ At c
     → Few 16777216 (labelPart (x .label) label) → GoodLabel (labelPart (x .label) label) → (p ≡ At c) × GoodTextBox x units lines label
@@ -108,13 +100,13 @@ text-box-cleared p x units lines label c e s n =
     let b = cleared _ _ _ c e in
     let t = text-cleared _ (x .«text_length») (textPart (x .text) units) c (b .0) in
     let u = cleared _ _ _ c (t .0) in
-    let l = cleared p _ _ c (u .0) in (
+    let l = lines-cleared p (linePart (x .«line_table») lines) c (u .0) in (
       l .0,
       record {
         text = t .1 (u .1);
         short = s;
         name = n;
-        table = good-lines (linePart (x .«line_table») lines) (l .1);
+        table = l .1;
         bit = good-bit (x .«line_table») (x .«text_flags» .«is_line_transform») (b .1);
       },
     )

@@ -1,6 +1,6 @@
 -- THE READ-BACK: a text box that a write lets through is read back, and what is read is equal to what was written.
 use mathlib.Core.Path.{_≡_, refl, ap, _∙_, subst}
-use Prim.Native.Nat.{ℕ, _+_, _-_, _*_, _/_, _≤_}
+use Prim.Native.Nat.{ℕ, _+_, _*_, _/_, _≤_}
 use native.Mathlib.Omega.{arith}
 use mathlib.Core.Bool.{Bool, not}
 use mathlib.Core.List.{List, [], _∷_, _++_}

@@ -1,12 +1,12 @@
 -- The checks of a text box.
-use Prim.Native.Nat.{ℕ, _/_, _%_}
+use Prim.Native.Nat.{ℕ, _/_}
 use mathlib.Core.Bool.{Bool, true, false, not, _||_}
 use mathlib.Core.List.{List}
 use lib.ListN.{length}
-use lib.Dec.{ltb, eqb}
+use lib.Dec.{eqb}
 use Rattle.core.specs.Taken.{stopIf, hasZero}
-use Rattle.core.specs.Checks.{lengthChecked}
-use Rattle.core.specs.declared.error.Refusal.the-variants.{IllFormedUtf8, BadName, ListLength, TextLength, IllFormedUtf16, NoLineBit}
+use Rattle.core.specs.Checks.{lengthChecked, countChecked}
+use Rattle.core.specs.declared.error.Refusal.the-variants.{IllFormedUtf8, BadName, TextLength, IllFormedUtf16, NoLineBit}
 use Rattle.core.specs.declared.cursor.Place.{Place}
 use Rattle.unicode.specs.Utf8.{wellFormed}
 use Rattle.unicode.specs.Utf16.{utf16Of}
@@ -39,10 +39,10 @@ labelBad (present bytes) = hasZero bytes || not (wellFormed bytes)
 unfoldable pub labelNameChecked : Place → Part → Place
 labelNameChecked p name = stopIf p (labelBad name) (BadName 3)
 
--- lines not 2n numbers, n at most 255
-unfoldable pub linesBad : Part → Bool
-linesBad absent = false
-linesBad (present l) = ltb 0 (length l % 2) || ltb 510 (length l)
+-- 11: lines not 2n numbers, n at most 255: list 3
+unfoldable pub linesChecked : Place → Part → Place
+linesChecked p absent = p
+linesChecked p (present l) = countChecked p 3 2 (length l)
 
 -- text present, units not text_length / 2 rounded down
 unfoldable pub unitsBad : Part → ℕ → Bool
@@ -66,7 +66,7 @@ utf16Checked p (present units) = faultChecked p (utf16Of units)
 -- 11, 13, 14 and 15
 unfoldable pub textBoxChecked : Place → TextBoxPane → List ℕ → List ℕ → Place
 textBoxChecked p x units l =
-    let p1 : Place = stopIf p (linesBad (linePart (x .«line_table») l)) (ListLength 3 (length l)) in
+    let p1 : Place = linesChecked p (linePart (x .«line_table») l) in
     let p2 : Place = stopIf p1 (unitsBad (textPart (x .text) units) (x .«text_length»)) (TextLength (length units) (x .«text_length»)) in
     let p3 : Place = utf16Checked p2 (textPart (x .text) units) in
     stopIf p3 (bitBad (x .«line_table») (x .«text_flags» .«is_line_transform»)) NoLineBit

@@ -12,7 +12,7 @@ use unicode::utf16::Utf16;
 ghost use mathlib.Core.Path.{_≡_};
 ghost use lib.ListN.{length};
 ghost use Rattle.text_box_read.specs.Parts.{textPart, labelPart, linePart};
-ghost use Rattle.text_box.specs.Checks.{labelChecked, labelLengthChecked, labelBad, labelNameChecked, linesBad, unitsBad, bitBad, utf16Checked, textBoxChecked};
+ghost use Rattle.text_box.specs.Checks.{labelChecked, labelLengthChecked, labelBad, labelNameChecked, linesChecked, unitsBad, bitBad, utf16Checked, textBoxChecked};
 
 // 7, of a label that was read.
 pub fn label_checked(p: Place, data: &[u8], label: Label) -> Place
@@ -66,13 +66,13 @@ pub fn label_name_checked(p: Place, label: Label, bytes: &[u8]) -> Place
     cursor::stop_if(p, bad, Refusal::BadName { which: 3 })
 }
 
-// Not 2n numbers, or n above 255.
-fn lines_bad(table: LineTable, lines: &[u32]) -> bool
-    ensures { λ r. ⌜ r ≡ linesBad (linePart table (now (lines .entry))) ⌝ }
+// 11
+fn lines_checked(p: Place, table: LineTable, lines: &[u32]) -> Place
+    ensures { λ r. ⌜ r ≡ linesChecked p (linePart table (now (lines .entry))) ⌝ }
 {
     match table {
-        LineTable::Absent => false,
-        LineTable::Present { count: _ } => (0 < lines.len() % 2) | (510 < lines.len()),
+        LineTable::Absent => p,
+        LineTable::Present { count: _ } => checks::count_checked(p, 3, 2, lines.len()),
     }
 }
 
@@ -119,11 +119,9 @@ pub fn text_box_checked(p: Place, x: TextBoxPane, units: &[u16], lines: &[u32]) 
     let found = x.text;
     let table = x.line_table;
     let text_length = x.text_length;
-    let uneven = lines_bad(table, lines);
     let unequal = units_bad(found, units, text_length);
     let clear = bit_bad(table, x.text_flags.is_line_transform);
-    let length = lines.len();
-    let p1 = cursor::stop_if(p, uneven, Refusal::ListLength { list: 3, length });
+    let p1 = lines_checked(p, table, lines);
     let count = units.len();
     let p2 = cursor::stop_if(
         p1,

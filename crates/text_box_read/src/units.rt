@@ -1,31 +1,20 @@
 // Whether the units of a text are well-formed UTF-16, straight from the bytes.
 use core::cursor;
 use core::cursor::ByteOrder;
+use unicode::utf16;
 ghost use mathlib.Core.Path.{_≡_};
 ghost use Prim.Native.Nat.{_+_, _*_, _≤_};
 ghost use lib.ListN.{length};
 ghost use Rattle.core.specs.Bytes.{Room};
 ghost use Rattle.core.specs.Lists.{numbersAt};
-ghost use Rattle.unicode.specs.Utf16.{highSurrogate, lowSurrogate, wellFormed16};
+ghost use Rattle.unicode.specs.Utf16.{wellFormed16};
 ghost use Rattle.text_box_read.specs.Parts.{breaks};
-
-fn high_surrogate(u: u16) -> bool
-    ensures { λ r. ⌜ r ≡ highSurrogate u ⌝ }
-{
-    (0xD800 <= u) & (u <= 0xDBFF)
-}
-
-fn low_surrogate(u: u16) -> bool
-    ensures { λ r. ⌜ r ≡ lowSurrogate u ⌝ }
-{
-    (0xDC00 <= u) & (u <= 0xDFFF)
-}
 
 // A unit where none such may stand: a low surrogate after no high one, or another after a high one.
 fn unit_breaks(waits: bool, u: u16) -> bool
     ensures { λ r. ⌜ r ≡ breaks waits u ⌝ }
 {
-    let low = low_surrogate(u);
+    let low = utf16::low_surrogate(u);
     if waits { !low } else { low }
 }
 
@@ -41,7 +30,7 @@ pub fn well_formed_at(order: ByteOrder, data: &[u8], at: usize, n: usize) -> boo
         if unit_breaks(waits, u) {
             return false;
         }
-        waits = high_surrogate(u);
+        waits = utf16::high_surrogate(u);
         i += 1;
     }
     !waits

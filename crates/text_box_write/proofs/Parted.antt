@@ -1,7 +1,7 @@
 -- The parts of a text box put one after the other: their room, and their bytes together.
 use mathlib.Core.Path.{_≡_, refl, ap}
 use mathlib.Core.List.{List}
-use Prim.Native.Nat.{ℕ, _+_, _-_, _≤_}
+use Prim.Native.Nat.{ℕ, _+_, _≤_}
 use native.Mathlib.Omega.{arith}
 use Rattle.core.specs.Bytes.{Put}
 use Rattle.core.specs.declared.cursor.ByteOrder.{ByteOrder}

@@ -3,7 +3,7 @@ use mathlib.Core.Path.{_≡_, refl, sym, ap, _∙_, subst}
 use Prim.Native.Nat.{ℕ, suc, _+_, _*_, _^_, _≤_, _<_}
 use native.Mathlib.Nat.{add-zero, mul-zero, mul-suc}
 use native.Mathlib.Omega.{arith}
-use mathlib.Core.List.{List, [], _∷_, _++_, append-assoc, append-nil}
+use mathlib.Core.List.{List, [], _∷_, append-assoc, append-nil}
 use lib.ListN.{length, getD}
 use Rattle.core.specs.Bytes.{bytesOf, bytesOfAll}
 use Rattle.core.specs.Taken.{Taken, advanced}
@@ -18,7 +18,7 @@ use Rattle.core.proofs.Here.{numbers-there}
 use Rattle.ui2d.specs.Floats.{float}
 use Rattle.ui2d.specs.Parts.{vector2Taken, vector3Taken, colorTaken, encodeVector2, encodeVector3, encodeColor, encodeQuad}
 use Rattle.ui2d.specs.Quads.{vectorBits, quadBits, vectorAt, quadAt}
-use Rattle.ui2d.specs.Typed.{TypedVector2, TypedVector3, TypedColor, TypedQuad}
+use Rattle.ui2d.specs.Typed.{TypedVector2, TypedVector3, TypedColor}
 use Rattle.ui2d.specs.declared.Vector2f.{Vector2f}
 use Rattle.ui2d.specs.declared.Vector3f.{Vector3f}
 use Rattle.ui2d.specs.declared.Color4u8.{Color4u8}
@@ -39,16 +39,6 @@ channels v = v .r ∷ v .g ∷ v .b ∷ v .a ∷ []
 abbrev pub Fits : ℕ → List ℕ → Type 0
 Fits w [] = Unit {0}
 Fits w (v ∷ vs) = (v < 256 ^ w) × Fits w vs
-
--- eight numbers of 32 bits
-pub quad-fit : (v : Quad) → TypedQuad v → Fits 4 (quadBits v)
-unfolding quadBits vectorBits
-quad-fit v t =
-    let tl = t .«top_left» in
-    let tr = t .«top_right» in
-    let bl = t .«bottom_left» in
-    let br = t .«bottom_right» in
-    (tl .x, (tl .y, (tr .x, (tr .y, (bl .x, (bl .y, (br .x, (br .y, tt))))))))
 
 -- ---- the bytes are those of the numbers
 
@@ -144,9 +134,9 @@ module _ {s : List ℕ} (c : Cursor) (order : ByteOrder) where
       → _≡_ {A = ColorTaken} (colorTaken order s (At (advanced c k))) (record { value = v; then = At (advanced c (k + 4)) })
   color-at k v t a = run-at 1 k (channels v) asColor (color-run order s _) (color-bytes order v) (t .r, (t .g, (t .b, (t .a, tt)))) a
 
-  pub quad-back : (k : ℕ) (v : Quad) → TypedQuad v → Holds s (c .pos + k) (encodeQuad order v) → quadAt (numbersAt order 4 8 s (c .pos + k)) 0 ≡ v
+  pub quad-back : (k : ℕ) (v : Quad) → Fits 4 (quadBits v) → Holds s (c .pos + k) (encodeQuad order v) → quadAt (numbersAt order 4 8 s (c .pos + k)) 0 ≡ v
   unfolding quadBits vectorBits quadAt vectorAt
   quad-back k v t a =
       let fits : c .pos + k + 32 ≤ length s = omega (arith, length-quad order v, holds-fits (encodeQuad order v) a) in
       let b = subst (Holds s (c .pos + k)) (quad-bytes order v) a in
-      ap (λ t. quadAt (t .value) 0) (sym (numbers-there s c k order 4 8 fits) ∙ numbers-at 4 k (quadBits v) (quad-fit v t) b)
+      ap (λ t. quadAt (t .value) 0) (sym (numbers-there s c k order 4 8 fits) ∙ numbers-at 4 k (quadBits v) t b)

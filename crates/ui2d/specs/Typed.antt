@@ -6,7 +6,6 @@ use lib.ListN.{length, getD}
 use Rattle.ui2d.specs.declared.Vector2f.{Vector2f}
 use Rattle.ui2d.specs.declared.Vector3f.{Vector3f}
 use Rattle.ui2d.specs.declared.Color4u8.{Color4u8}
-use Rattle.ui2d.specs.declared.Quad.{Quad}
 
 pub record TypedVector2 (v : Vector2f) : Type 0 where
   pub x : v .x .bits < 256 ^ 4
@@ -33,9 +32,3 @@ pub record TypedColors (vs : List Color4u8) : Type 0 where
   pub «top_right» : TypedColor (colorAt vs 1)
   pub «bottom_left» : TypedColor (colorAt vs 2)
   pub «bottom_right» : TypedColor (colorAt vs 3)
-
-pub record TypedQuad (v : Quad) : Type 0 where
-  pub «top_left» : TypedVector2 (v .«top_left»)
-  pub «top_right» : TypedVector2 (v .«top_right»)
-  pub «bottom_left» : TypedVector2 (v .«bottom_left»)
-  pub «bottom_right» : TypedVector2 (v .«bottom_right»)

@@ -11,7 +11,7 @@ ghost use Rattle.core.specs.Bytes.{Room, Put, splice};
 ghost use Rattle.ui2d.specs.Floats.{valueOf, bitsOf};
 ghost use Rattle.ui2d.specs.Parts.{vector2Taken, vector3Taken, colorTaken, colorsTaken, encodeVector2, encodeVector3, encodeColor, encodeColors, encodeQuad};
 ghost use Rattle.ui2d.specs.Quads.{vectorAt, vectorBits, quadAt, quadBits};
-ghost use Rattle.ui2d.specs.Typed.{TypedVector2, TypedVector3, TypedColor, TypedColors, TypedQuad};
+ghost use Rattle.ui2d.specs.Typed.{TypedVector2, TypedVector3, TypedColor, TypedColors};
 
 // IEEE 754's binary32 interchange format: the 32 bits, a NaN's payload included.
 pub struct Binary32 {
@@ -331,13 +331,4 @@ pub fn typed_colors(v: [Color4u8; 4])
     typed_color(v[1]);
     typed_color(v[2]);
     typed_color(v[3]);
-}
-
-pub fn typed_quad(v: Quad)
-    ensures { λ _. ⌜ TypedQuad v ⌝ }
-{
-    typed_vector2(v.top_left);
-    typed_vector2(v.top_right);
-    typed_vector2(v.bottom_left);
-    typed_vector2(v.bottom_right);
 }

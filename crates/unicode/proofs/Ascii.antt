@@ -1,5 +1,5 @@
 -- Laws of the test that every byte is ASCII.
-use mathlib.Core.Path.{_≡_, refl, sym, _∙_}
+use mathlib.Core.Path.{_≡_, refl, _∙_}
 use mathlib.Core.List.{List, [], _∷_}
 use mathlib.Core.Bool.{Bool, true, false, not, _&&_, _||_, and-true}
 use Prim.Native.Nat.{ℕ, zero, suc, _+_, _≤_, _<_}

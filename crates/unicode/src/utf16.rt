@@ -8,13 +8,13 @@ pub enum Utf16 {
     Unpaired { before: usize },
 }
 
-fn high_surrogate(u: u16) -> bool
+pub fn high_surrogate(u: u16) -> bool
     ensures { λ r. ⌜ r ≡ highSurrogate u ⌝ }
 {
     (0xD800 <= u) & (u <= 0xDBFF)
 }
 
-fn low_surrogate(u: u16) -> bool
+pub fn low_surrogate(u: u16) -> bool
     ensures { λ r. ⌜ r ≡ lowSurrogate u ⌝ }
 {
     (0xDC00 <= u) & (u <= 0xDFFF)

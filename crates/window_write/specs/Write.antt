@@ -1,14 +1,14 @@
 -- What a window has beyond the base, as it is written: its checks, its length and its bytes.
 use mathlib.Core.Path.{_≡_}
 use Prim.Native.Nat.{ℕ, zero, suc, _+_, _*_, _/_, _%_, _≤_}
-use mathlib.Core.Bool.{_||_}
 use mathlib.Core.List.{List, [], _∷_, _++_}
 use lib.ListN.{length, replicate}
 use lib.IntN.{ℤ}
 use lib.Dec.{ltb}
 use Rattle.core.specs.Bytes.{bytesOf, bytesOfAll, bitsOf, padding}
 use Rattle.core.specs.Taken.{stopIf}
-use Rattle.core.specs.declared.error.Refusal.the-variants.{ListLength, BadFlip}
+use Rattle.core.specs.Checks.{countChecked}
+use Rattle.core.specs.declared.error.Refusal.the-variants.{BadFlip}
 use Rattle.core.specs.declared.cursor.ByteOrder.{ByteOrder}
 use Rattle.core.specs.declared.cursor.Place.{Place}
 use Rattle.flags.specs.Fields.{windowFlagsNumber}
@@ -17,10 +17,6 @@ use Rattle.window_read.specs.declared.WindowContent.{WindowContent}
 use Rattle.window_read.specs.declared.WindowPane.{WindowPane}
 
 -- ---- checks
-
--- 11: a list of a length that is not width · n, n at most 255
-unfoldable pub countChecked : Place → ℕ → ℕ → ℕ → Place
-countChecked p list width n = stopIf p (ltb (255 * width) n || ltb 0 (n % width)) (ListLength list n)
 
 -- 12: the first frame, counted from i, whose flip is above 5
 unfoldable pub flipsChecked : Place → ℕ → List ℕ → Place

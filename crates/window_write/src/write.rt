@@ -1,4 +1,5 @@
 // A window's checks, its length and its bytes.
+use core::checks;
 use core::cursor;
 use core::cursor::ByteOrder;
 use core::cursor::Place;
@@ -10,21 +11,9 @@ ghost use mathlib.Core.Path.{_≡_};
 ghost use Prim.Native.Nat.{_+_, _*_, _/_, _%_, _^_, _≤_, _<_};
 ghost use lib.ListN.{length};
 ghost use Rattle.core.specs.Bytes.{bytesOfAll, Room, Put};
-ghost use Rattle.window_write.specs.Write.{countChecked, flipsChecked, windowChecked, GoodWindow, contentPadding, windowLength, encodeSides, encodeBorders, encodeHead, encodeContent, frameOffsets, encodeFrame, encodeFrames, encodeWindow};
+ghost use Rattle.window_write.specs.Write.{flipsChecked, windowChecked, GoodWindow, contentPadding, windowLength, encodeSides, encodeBorders, encodeHead, encodeContent, frameOffsets, encodeFrame, encodeFrames, encodeWindow};
 
 // ---- checks
-
-// 11: a list that is not width times n numbers, n at most 255.
-fn count_checked(p: Place, list: usize, width: usize, length: usize) -> Place
-    requires { ⌜ (0 < width) × (width ≤ 8) ⌝ }
-    ensures { λ r. ⌜ r ≡ countChecked p list width length ⌝ }
-{
-    cursor::stop_if(
-        p,
-        (255 * width < length) | (0 < length % width),
-        Refusal::ListLength { list, length },
-    )
-}
 
 // 12: the first frame whose flip is above 5.
 fn flips_checked(start: Place, frames: &[u16]) -> Place
@@ -51,8 +40,8 @@ fn flips_checked(start: Place, frames: &[u16]) -> Place
 pub fn window_checked(p: Place, quads: &[u32], frames: &[u16]) -> Place
     ensures { λ r. ⌜ r ≡ windowChecked p (now (quads .entry)) (now (frames .entry)) ⌝ }
 {
-    let p = count_checked(p, 1, 8, quads.len());
-    let p = count_checked(p, 4, 2, frames.len());
+    let p = checks::count_checked(p, 1, 8, quads.len());
+    let p = checks::count_checked(p, 4, 2, frames.len());
     flips_checked(p, frames)
 }
 

@@ -2,8 +2,6 @@ use mathlib.Core.Path.{refl}
 use Rattle.alignment.specs.Alignment.{blankAlignment}
 use Rattle.alignment.proofs.blank_alignment.Statement.{statement}
 use Rattle.alignment.proofs.blank_alignment.Tie as tie
-use Rattle.alignment.proofs.blank_alignment.Reads as reads
-use Rattle.alignment.proofs.blank_alignment.Lts as lts
 
 returns : tie.Need-returns
 unfolding blankAlignment

@@ -5,12 +5,6 @@ use Rattle.alignment.specs.Alignment.{encodeAlignment}
 use borrow.Author.Needs.{needs}
 use Rattle.alignment.proofs.put_alignment.Statement.{statement}
 use Rattle.alignment.proofs.put_alignment.Tie as tie
-use Rattle.alignment.proofs.put_alignment.Reads as reads
-use Rattle.alignment.proofs.put_alignment.Lts as lts
-use Rattle.alignment.proofs.bool_byte.Reads as bool-byte-reads
-use Rattle.core.proofs.writer.put_u16.Reads as put-u16-reads
-use Rattle.core.proofs.writer.put_u32.Reads as put-u32-reads
-use Rattle.core.proofs.writer.put_u8.Reads as put-u8-reads
 
 bool-byte-requires : tie.Need-bool-byte-requires
 bool-byte-requires c κs = search needs

@@ -2,11 +2,6 @@ use Rattle.alignment.specs.Alignment.{alignmentTaken}
 use borrow.Author.Needs.{needs}
 use Rattle.alignment.proofs.take_alignment.Statement.{statement}
 use Rattle.alignment.proofs.take_alignment.Tie as tie
-use Rattle.alignment.proofs.take_alignment.Reads as reads
-use Rattle.alignment.proofs.take_alignment.Lts as lts
-use Rattle.core.proofs.cursor.take_u16.Reads as take-u16-reads
-use Rattle.core.proofs.cursor.take_u32.Reads as take-u32-reads
-use Rattle.core.proofs.cursor.take_u8.Reads as take-u8-reads
 
 take-u32-requires : tie.Need-take-u32-requires
 take-u32-requires c κs = search needs

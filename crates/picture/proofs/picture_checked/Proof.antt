@@ -1,14 +1,14 @@
-use Rattle.picture.specs.Picture.{pictureChecked, quadsBad}
+use Rattle.picture.specs.Picture.{pictureChecked}
 use borrow.Author.Needs.{needs}
 use Rattle.picture.proofs.picture_checked.Statement.{statement}
 use Rattle.picture.proofs.picture_checked.Tie as tie
 
-stop-if-requires : tie.Need-stop-if-requires
-stop-if-requires c κs = search needs
+count-checked-requires : tie.Need-count-checked-requires
+count-checked-requires c κs = search needs
 
 returns : tie.Need-returns
-unfolding pictureChecked quadsBad
-returns c = c .stop-if .ensures
+unfolding pictureChecked
+returns c = c .count-checked .ensures
 
 pub picture-checked-spec : {M : Type 1} → statement M
-picture-checked-spec = tie.close (tie.spec stop-if-requires returns)
+picture-checked-spec = tie.close (tie.spec count-checked-requires returns)

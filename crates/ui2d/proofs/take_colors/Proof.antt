@@ -3,11 +3,6 @@ use native.Mathlib.Omega.{arith}
 use borrow.Author.Needs.{needs}
 use Rattle.ui2d.proofs.take_colors.Statement.{statement}
 use Rattle.ui2d.proofs.take_colors.Tie as tie
-use Rattle.ui2d.proofs.take_colors.Reads as reads
-use Rattle.ui2d.proofs.take_colors.Lts as lts
-use Rattle.core.proofs.cursor.Cursor.advanced.Reads as advanced-reads
-use Rattle.ui2d.proofs.fixed.colors_at.Reads as colors-at-reads
-use Rattle.ui2d.proofs.take_corners.Reads as take-corners-reads
 
 enum-known-p : tie.Need-enum-known-p
 enum-known-p c = search needs

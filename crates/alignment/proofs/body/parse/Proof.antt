@@ -4,11 +4,6 @@ use Rattle.alignment.proofs.Calls.{parsed, parsed-refused}
 use borrow.Author.Needs.{needs}
 use Rattle.alignment.proofs.body.parse.Statement.{statement}
 use Rattle.alignment.proofs.body.parse.Tie as tie
-use Rattle.alignment.proofs.body.parse.Reads as reads
-use Rattle.alignment.proofs.body.parse.Lts as lts
-use Rattle.alignment.proofs.body.read.Reads as read-reads
-use Rattle.alignment.proofs.body.refused.Reads as refused-reads
-use Rattle.core.proofs.checks.body_start.Reads as body-start-reads
 
 body-start-requires : tie.Need-body-start-requires
 body-start-requires c κs = search needs

@@ -3,10 +3,6 @@ use Rattle.alignment.specs.Body.{encodeBody}
 use borrow.Author.Needs.{needs}
 use Rattle.alignment.proofs.body.put_body.Statement.{statement}
 use Rattle.alignment.proofs.body.put_body.Tie as tie
-use Rattle.alignment.proofs.body.put_body.Reads as reads
-use Rattle.alignment.proofs.body.put_body.Lts as lts
-use Rattle.alignment.proofs.put_alignment.Reads as put-alignment-reads
-use Rattle.pane.proofs.put_pane.Reads as put-pane-reads
 
 put-pane-requires : tie.Need-put-pane-requires
 put-pane-requires c κs = search needs

@@ -2,12 +2,6 @@ use Rattle.alignment.proofs.Calls.{read-got, read-refused}
 use borrow.Author.Needs.{needs}
 use Rattle.alignment.proofs.body.read.Statement.{statement}
 use Rattle.alignment.proofs.body.read.Tie as tie
-use Rattle.alignment.proofs.body.read.Reads as reads
-use Rattle.alignment.proofs.body.read.Lts as lts
-use Rattle.alignment.proofs.body.refused.Reads as refused-reads
-use Rattle.alignment.proofs.take_alignment.Reads as take-alignment-reads
-use Rattle.pane.proofs.checks.texts_checked.Reads as texts-checked-reads
-use Rattle.pane.proofs.take_pane.Reads as take-pane-reads
 
 take-pane-requires : tie.Need-take-pane-requires
 take-pane-requires c κs = search needs

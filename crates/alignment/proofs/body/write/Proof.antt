@@ -6,10 +6,6 @@ use Rattle.alignment.proofs.Cleared.{write-cleared}
 use borrow.Author.Needs.{needs}
 use Rattle.alignment.proofs.body.write.Statement.{statement}
 use Rattle.alignment.proofs.body.write.Tie as tie
-use Rattle.alignment.proofs.body.write.Reads as reads
-use Rattle.alignment.proofs.body.write.Lts as lts
-use Rattle.alignment.proofs.body.put_body.Reads as put-body-reads
-use Rattle.alignment.proofs.body.write_checked.Reads as write-checked-reads
 
 write-checked-requires : tie.Need-write-checked-requires
 write-checked-requires c κs = search needs

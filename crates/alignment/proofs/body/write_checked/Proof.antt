@@ -4,12 +4,6 @@ use lib.Dec.{lit<}
 use borrow.Author.Needs.{needs}
 use Rattle.alignment.proofs.body.write_checked.Statement.{statement}
 use Rattle.alignment.proofs.body.write_checked.Tie as tie
-use Rattle.alignment.proofs.body.write_checked.Reads as reads
-use Rattle.alignment.proofs.body.write_checked.Lts as lts
-use Rattle.core.proofs.checks.body_start.Reads as body-start-reads
-use Rattle.core.proofs.checks.end_checked.Reads as end-checked-reads
-use Rattle.pane.proofs.checks.names_checked.Reads as names-checked-reads
-use Rattle.pane.proofs.checks.reserve_checked.Reads as reserve-checked-reads
 
 body-start-requires : tie.Need-body-start-requires
 body-start-requires c κs = search needs

@@ -2,11 +2,6 @@ use Rattle.core.specs.Checks.{bodyStart}
 use borrow.Author.Needs.{needs}
 use Rattle.core.proofs.checks.body_start.Statement.{statement}
 use Rattle.core.proofs.checks.body_start.Tie as tie
-use Rattle.core.proofs.checks.body_start.Reads as reads
-use Rattle.core.proofs.checks.body_start.Lts as lts
-use Rattle.core.proofs.checks.body_checked.Reads as body-checked-reads
-use Rattle.core.proofs.checks.length_checked.Reads as length-checked-reads
-use Rattle.core.proofs.cursor.Cursor.start.Reads as start-reads
 
 start-requires : tie.Need-start-requires
 start-requires c κs = search needs

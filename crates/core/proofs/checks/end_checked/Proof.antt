@@ -1,13 +1,9 @@
-use mathlib.Core.Path.{_∙_, sym}
-use Rattle.core.specs.Checks.{endChecked}
+use mathlib.Core.Path.{_∙_}
 use Rattle.core.proofs.Checked.{end-here, end-stays}
 use native.Mathlib.Omega.{arith}
 use borrow.Author.Needs.{needs}
 use Rattle.core.proofs.checks.end_checked.Statement.{statement}
 use Rattle.core.proofs.checks.end_checked.Tie as tie
-use Rattle.core.proofs.checks.end_checked.Reads as reads
-use Rattle.core.proofs.checks.end_checked.Lts as lts
-use Rattle.core.proofs.cursor.stop_if.Reads as stop-if-reads
 
 enum-known-p : tie.Need-enum-known-p
 enum-known-p c = search needs

@@ -2,11 +2,6 @@ use Rattle.core.specs.Checks.{sectionStart}
 use borrow.Author.Needs.{needs}
 use Rattle.core.proofs.checks.section_start.Statement.{statement}
 use Rattle.core.proofs.checks.section_start.Tie as tie
-use Rattle.core.proofs.checks.section_start.Reads as reads
-use Rattle.core.proofs.checks.section_start.Lts as lts
-use Rattle.core.proofs.checks.length_checked.Reads as length-checked-reads
-use Rattle.core.proofs.checks.section_checked.Reads as section-checked-reads
-use Rattle.core.proofs.cursor.Cursor.start.Reads as start-reads
 
 start-requires : tie.Need-start-requires
 start-requires c κs = search needs

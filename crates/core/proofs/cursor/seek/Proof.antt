@@ -1,12 +1,9 @@
-use mathlib.Core.Path.{ap, sym, _∙_}
+use mathlib.Core.Path.{ap, _∙_}
 use Rattle.core.specs.declared.cursor.Place.the-variants.{At}
 use Rattle.core.proofs.Runs.{seek-got, seek-beyond, seek-stays}
 use borrow.Author.Needs.{needs}
 use Rattle.core.proofs.cursor.seek.Statement.{statement}
 use Rattle.core.proofs.cursor.seek.Tie as tie
-use Rattle.core.proofs.cursor.seek.Reads as reads
-use Rattle.core.proofs.cursor.seek.Lts as lts
-use Rattle.core.proofs.cursor.Cursor.moved.Reads as moved-reads
 
 enum-known-p : tie.Need-enum-known-p
 enum-known-p c = search needs

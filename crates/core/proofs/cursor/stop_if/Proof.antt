@@ -2,8 +2,6 @@ use Rattle.core.proofs.Runs.{stop-here, stop-not, stop-stays}
 use borrow.Author.Needs.{needs}
 use Rattle.core.proofs.cursor.stop_if.Statement.{statement}
 use Rattle.core.proofs.cursor.stop_if.Tie as tie
-use Rattle.core.proofs.cursor.stop_if.Reads as reads
-use Rattle.core.proofs.cursor.stop_if.Lts as lts
 
 enum-known-p : tie.Need-enum-known-p
 enum-known-p c = search needs

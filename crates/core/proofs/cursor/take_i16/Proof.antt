@@ -2,10 +2,6 @@ use Rattle.core.proofs.TwosComplement.{i16-read}
 use borrow.Author.Needs.{needs}
 use Rattle.core.proofs.cursor.take_i16.Statement.{statement}
 use Rattle.core.proofs.cursor.take_i16.Tie as tie
-use Rattle.core.proofs.cursor.take_i16.Reads as reads
-use Rattle.core.proofs.cursor.take_i16.Lts as lts
-use Rattle.core.proofs.cursor.take_u16.Reads as take-u16-reads
-use Rattle.core.proofs.signed.signed_of.Reads as signed-of-reads
 
 take-u16-requires : tie.Need-take-u16-requires
 take-u16-requires c κs = search needs

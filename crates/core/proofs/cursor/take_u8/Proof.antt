@@ -6,9 +6,6 @@ use native.Mathlib.Omega.{arith}
 use borrow.Author.Needs.{needs}
 use Rattle.core.proofs.cursor.take_u8.Statement.{statement}
 use Rattle.core.proofs.cursor.take_u8.Tie as tie
-use Rattle.core.proofs.cursor.take_u8.Reads as reads
-use Rattle.core.proofs.cursor.take_u8.Lts as lts
-use Rattle.core.proofs.cursor.Cursor.advanced.Reads as advanced-reads
 
 enum-known-p : tie.Need-enum-known-p
 enum-known-p c = search needs

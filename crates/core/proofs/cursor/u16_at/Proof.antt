@@ -2,9 +2,6 @@ use Rattle.core.proofs.Numbers.{two}
 use borrow.Author.Needs.{needs}
 use Rattle.core.proofs.cursor.u16_at.Statement.{statement}
 use Rattle.core.proofs.cursor.u16_at.Tie as tie
-use Rattle.core.proofs.cursor.u16_at.Reads as reads
-use Rattle.core.proofs.cursor.u16_at.Lts as lts
-use Rattle.core.proofs.cursor.join2.Reads as join2-reads
 
 shared-slice-read-join2 : tie.Need-shared-slice-read-join2
 shared-slice-read-join2 c = search needs

@@ -2,9 +2,6 @@ use Rattle.core.proofs.Numbers.{four}
 use borrow.Author.Needs.{needs}
 use Rattle.core.proofs.cursor.u32_at.Statement.{statement}
 use Rattle.core.proofs.cursor.u32_at.Tie as tie
-use Rattle.core.proofs.cursor.u32_at.Reads as reads
-use Rattle.core.proofs.cursor.u32_at.Lts as lts
-use Rattle.core.proofs.cursor.join4.Reads as join4-reads
 
 shared-slice-read-join4 : tie.Need-shared-slice-read-join4
 shared-slice-read-join4 c = search needs

@@ -1,15 +1,8 @@
-use mathlib.Core.Path.{_≡_, refl, sym, ap, _∙_}
-use mathlib.Core.List.{_++_}
-use Prim.Native.Nat.{_+_, _-_, _*_, _≤_, _<_}
-use lib.ListN.{length, drop, set, length-set}
-use Rattle.core.specs.Lists.{numbersAt}
+use Prim.Native.Nat.{_-_}
 use Rattle.core.proofs.Lists.{Filled, filled-none, filled-more, filled-all}
 use borrow.Author.Needs.{needs}
 use Rattle.core.proofs.list.fill_u32s.Statement.{statement}
 use Rattle.core.proofs.list.fill_u32s.Tie as tie
-use Rattle.core.proofs.list.fill_u32s.Reads as reads
-use Rattle.core.proofs.list.fill_u32s.Lts as lts
-use Rattle.core.proofs.cursor.u32_at.Reads as u32-at-reads
 
 abbrev Inv-loop : tie.InvT-loop
 Inv-loop order «data» at n out₀ i₀ out i = Filled order 4 «data» at n out₀ out i

@@ -4,9 +4,6 @@ use native.Mathlib.Omega.{arith}
 use borrow.Author.Needs.{needs}
 use Rattle.core.proofs.list.measure_u32s.Statement.{statement}
 use Rattle.core.proofs.list.measure_u32s.Tie as tie
-use Rattle.core.proofs.list.measure_u32s.Reads as reads
-use Rattle.core.proofs.list.measure_u32s.Lts as lts
-use Rattle.core.proofs.cursor.Cursor.advanced.Reads as advanced-reads
 
 enum-known-p : tie.Need-enum-known-p
 enum-known-p c = search needs

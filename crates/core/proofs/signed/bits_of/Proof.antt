@@ -1,8 +1,6 @@
 use Rattle.core.proofs.TwosComplement.{up-fits, flip-fits, flip-cast, flip-le, flip-bits, plain-cast, plain-bits}
 use Rattle.core.proofs.signed.bits_of.Statement.{statement}
 use Rattle.core.proofs.signed.bits_of.Tie as tie
-use Rattle.core.proofs.signed.bits_of.Reads as reads
-use Rattle.core.proofs.signed.bits_of.Lts as lts
 
 add-k : tie.Need-add-k
 add-k c = up-fits (c .before .args .x) (c .before .fits .x) (c .if1 .taken)

@@ -2,8 +2,6 @@ use Rattle.core.proofs.TwosComplement.{first, second, positive, negativ
 use borrow.Author.Needs.{needs}
 use Rattle.core.proofs.signed.signed_of.Statement.{statement}
 use Rattle.core.proofs.signed.signed_of.Tie as tie
-use Rattle.core.proofs.signed.signed_of.Reads as reads
-use Rattle.core.proofs.signed.signed_of.Lts as lts
 
 cast-result : tie.Need-cast-result
 cast-result c = search needs

@@ -5,8 +5,6 @@ use borrow.Author.Needs.{needs}
 use native.Mathlib.Omega.{arith}
 use Rattle.core.proofs.text.fill_string.Statement.{statement}
 use Rattle.core.proofs.text.fill_string.Tie as tie
-use Rattle.core.proofs.text.fill_string.Reads as reads
-use Rattle.core.proofs.text.fill_string.Lts as lts
 
 abbrev Inv-loop : tie.InvT-loop
 Inv-loop src out₀ i₀ out i = Copied src out₀ out i

@@ -7,8 +7,6 @@ use Rattle.core.specs.Taken.{hasZero}
 use Rattle.core.proofs.Strings.{zero-step, zero-none}
 use Rattle.core.proofs.text.has_zero.Statement.{statement}
 use Rattle.core.proofs.text.has_zero.Tie as tie
-use Rattle.core.proofs.text.has_zero.Reads as reads
-use Rattle.core.proofs.text.has_zero.Lts as lts
 
 abbrev Inv-loop : tie.InvT-loop
 Inv-loop s i₀ i = (i ≤ length s) × (hasZero s ≡ hasZero (drop i s))

@@ -6,8 +6,6 @@ use Rattle.core.proofs.Strings.{ends, ends-not}
 use borrow.Author.Needs.{needs}
 use Rattle.core.proofs.text.string_length.Statement.{statement}
 use Rattle.core.proofs.text.string_length.Tie as tie
-use Rattle.core.proofs.text.string_length.Reads as reads
-use Rattle.core.proofs.text.string_length.Lts as lts
 
 abbrev Inv-loop : tie.InvT-loop
 Inv-loop src i₀ i = (i ≤ length src) × ((k : ℕ) → k < i → getD src k 0 ≡ 0 → ⊥)

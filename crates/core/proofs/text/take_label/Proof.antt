@@ -3,10 +3,6 @@ use native.Mathlib.Omega.{arith}
 use borrow.Author.Needs.{needs}
 use Rattle.core.proofs.text.take_label.Statement.{statement}
 use Rattle.core.proofs.text.take_label.Tie as tie
-use Rattle.core.proofs.text.take_label.Reads as reads
-use Rattle.core.proofs.text.take_label.Lts as lts
-use Rattle.core.proofs.cursor.Cursor.advanced.Reads as advanced-reads
-use Rattle.core.proofs.text.string_length.Reads as string-length-reads
 
 enum-known-p : tie.Need-enum-known-p
 enum-known-p c = search needs

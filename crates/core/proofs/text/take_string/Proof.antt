@@ -3,11 +3,6 @@ use Rattle.core.proofs.Runs.{string-got, string-short, string-stays}
 use borrow.Author.Needs.{needs}
 use Rattle.core.proofs.text.take_string.Statement.{statement}
 use Rattle.core.proofs.text.take_string.Tie as tie
-use Rattle.core.proofs.text.take_string.Reads as reads
-use Rattle.core.proofs.text.take_string.Lts as lts
-use Rattle.core.proofs.cursor.Cursor.advanced.Reads as advanced-reads
-use Rattle.core.proofs.text.end_of.Reads as end-of-reads
-use Rattle.core.proofs.text.fill_string.Reads as fill-string-reads
 
 enum-known-p : tie.Need-enum-known-p
 enum-known-p c = search needs

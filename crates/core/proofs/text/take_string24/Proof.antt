@@ -2,9 +2,6 @@ use Rattle.core.specs.Taken.{string24Taken}
 use borrow.Author.Needs.{needs}
 use Rattle.core.proofs.text.take_string24.Statement.{statement}
 use Rattle.core.proofs.text.take_string24.Tie as tie
-use Rattle.core.proofs.text.take_string24.Reads as reads
-use Rattle.core.proofs.text.take_string24.Lts as lts
-use Rattle.core.proofs.text.take_string.Reads as take-string-reads
 
 slice-aggregate-take-string : tie.Need-slice-aggregate-take-string
 slice-aggregate-take-string c = search needs

@@ -2,9 +2,6 @@ use Rattle.core.specs.Taken.{string8Taken}
 use borrow.Author.Needs.{needs}
 use Rattle.core.proofs.text.take_string8.Statement.{statement}
 use Rattle.core.proofs.text.take_string8.Tie as tie
-use Rattle.core.proofs.text.take_string8.Reads as reads
-use Rattle.core.proofs.text.take_string8.Lts as lts
-use Rattle.core.proofs.text.take_string.Reads as take-string-reads
 
 slice-aggregate-take-string : tie.Need-slice-aggregate-take-string
 slice-aggregate-take-string c = search needs

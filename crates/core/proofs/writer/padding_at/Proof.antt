@@ -2,8 +2,6 @@ use Rattle.core.specs.Bytes.{padding}
 use borrow.Author.Needs.{needs}
 use Rattle.core.proofs.writer.padding_at.Statement.{statement}
 use Rattle.core.proofs.writer.padding_at.Tie as tie
-use Rattle.core.proofs.writer.padding_at.Reads as reads
-use Rattle.core.proofs.writer.padding_at.Lts as lts
 
 sub-result : tie.Need-sub-result
 sub-result c = search needs

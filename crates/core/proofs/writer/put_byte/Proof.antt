@@ -5,8 +5,6 @@ use native.Mathlib.Omega.{arith}
 use borrow.Author.Needs.{needs}
 use Rattle.core.proofs.writer.put_byte.Statement.{statement}
 use Rattle.core.proofs.writer.put_byte.Tie as tie
-use Rattle.core.proofs.writer.put_byte.Reads as reads
-use Rattle.core.proofs.writer.put_byte.Lts as lts
 
 slice-write-out : tie.Need-slice-write-out
 slice-write-out c = search needs

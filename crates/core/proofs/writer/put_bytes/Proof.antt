@@ -1,5 +1,5 @@
-use mathlib.Core.Path.{_≡_, refl, sym}
-use Prim.Native.Nat.{_+_, _-_, _≤_, _<_}
+use mathlib.Core.Path.{refl, sym}
+use Prim.Native.Nat.{_-_, _≤_, _<_}
 use lib.ListN.{length, take}
 use lib.Seq.{take-all}
 use Rattle.core.specs.Bytes.{Put}
@@ -7,9 +7,6 @@ use Rattle.core.proofs.Puts.{_then_, put-none, put-as, take-more}
 use native.Mathlib.Omega.{arith}
 use Rattle.core.proofs.writer.put_bytes.Statement.{statement}
 use Rattle.core.proofs.writer.put_bytes.Tie as tie
-use Rattle.core.proofs.writer.put_bytes.Reads as reads
-use Rattle.core.proofs.writer.put_bytes.Lts as lts
-use Rattle.core.proofs.writer.put_byte.Reads as put-byte-reads
 
 abbrev Inv-loop : tie.InvT-loop
 Inv-loop out₀ p s q₀ i₀ out q i = (i ≤ length s) × Put out₀ p i (take i s) q out

@@ -5,10 +5,6 @@ use Rattle.core.proofs.Puts.{put-as}
 use borrow.Author.Needs.{needs}
 use Rattle.core.proofs.writer.put_i16.Statement.{statement}
 use Rattle.core.proofs.writer.put_i16.Tie as tie
-use Rattle.core.proofs.writer.put_i16.Reads as reads
-use Rattle.core.proofs.writer.put_i16.Lts as lts
-use Rattle.core.proofs.signed.bits_of.Reads as bits-of-reads
-use Rattle.core.proofs.writer.put_u16.Reads as put-u16-reads
 
 bits-of-requires : tie.Need-bits-of-requires
 bits-of-requires c κs = search needs

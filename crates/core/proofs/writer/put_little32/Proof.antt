@@ -5,8 +5,6 @@ use native.Mathlib.Omega.{arith}
 use borrow.Author.Needs.{needs}
 use Rattle.core.proofs.writer.put_little32.Statement.{statement}
 use Rattle.core.proofs.writer.put_little32.Tie as tie
-use Rattle.core.proofs.writer.put_little32.Reads as reads
-use Rattle.core.proofs.writer.put_little32.Lts as lts
 
 cast-out : tie.Need-cast-out
 cast-out c = search needs

@@ -1,10 +1,6 @@
 use borrow.Author.Needs.{needs}
 use Rattle.core.proofs.writer.put_padding.Statement.{statement}
 use Rattle.core.proofs.writer.put_padding.Tie as tie
-use Rattle.core.proofs.writer.put_padding.Reads as reads
-use Rattle.core.proofs.writer.put_padding.Lts as lts
-use Rattle.core.proofs.writer.padding_at.Reads as padding-at-reads
-use Rattle.core.proofs.writer.put_zeros.Reads as put-zeros-reads
 
 padding-at-requires : tie.Need-padding-at-requires
 padding-at-requires c κs = search needs

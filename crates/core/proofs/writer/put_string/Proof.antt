@@ -3,10 +3,6 @@ use native.Mathlib.Omega.{arith}
 use borrow.Author.Needs.{needs}
 use Rattle.core.proofs.writer.put_string.Statement.{statement}
 use Rattle.core.proofs.writer.put_string.Tie as tie
-use Rattle.core.proofs.writer.put_string.Reads as reads
-use Rattle.core.proofs.writer.put_string.Lts as lts
-use Rattle.core.proofs.writer.put_bytes.Reads as put-bytes-reads
-use Rattle.core.proofs.writer.put_zeros.Reads as put-zeros-reads
 
 put-bytes-requires : tie.Need-put-bytes-requires
 put-bytes-requires c κs = search needs

@@ -5,9 +5,6 @@ use native.Mathlib.Omega.{arith}
 use borrow.Author.Needs.{needs}
 use Rattle.core.proofs.writer.put_string24.Statement.{statement}
 use Rattle.core.proofs.writer.put_string24.Tie as tie
-use Rattle.core.proofs.writer.put_string24.Reads as reads
-use Rattle.core.proofs.writer.put_string24.Lts as lts
-use Rattle.core.proofs.writer.put_string.Reads as put-string-reads
 
 -- the array's length, and as many bytes as are counted
 long : (c : tie.Start) → length (c .args .s .bytes) ≡ 24

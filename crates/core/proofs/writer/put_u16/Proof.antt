@@ -2,9 +2,6 @@ use Rattle.core.proofs.Puts.{little-only}
 use borrow.Author.Needs.{needs}
 use Rattle.core.proofs.writer.put_u16.Statement.{statement}
 use Rattle.core.proofs.writer.put_u16.Tie as tie
-use Rattle.core.proofs.writer.put_u16.Reads as reads
-use Rattle.core.proofs.writer.put_u16.Lts as lts
-use Rattle.core.proofs.writer.put_little16.Reads as put-little16-reads
 
 put-little16-requires : tie.Need-put-little16-requires
 put-little16-requires c κs = search needs

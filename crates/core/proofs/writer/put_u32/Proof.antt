@@ -2,9 +2,6 @@ use Rattle.core.proofs.Puts.{little-only}
 use borrow.Author.Needs.{needs}
 use Rattle.core.proofs.writer.put_u32.Statement.{statement}
 use Rattle.core.proofs.writer.put_u32.Tie as tie
-use Rattle.core.proofs.writer.put_u32.Reads as reads
-use Rattle.core.proofs.writer.put_u32.Lts as lts
-use Rattle.core.proofs.writer.put_little32.Reads as put-little32-reads
 
 put-little32-requires : tie.Need-put-little32-requires
 put-little32-requires c κs = search needs

@@ -5,9 +5,6 @@ use Rattle.core.proofs.Puts.{put-as}
 use borrow.Author.Needs.{needs}
 use Rattle.core.proofs.writer.put_u8.Statement.{statement}
 use Rattle.core.proofs.writer.put_u8.Tie as tie
-use Rattle.core.proofs.writer.put_u8.Reads as reads
-use Rattle.core.proofs.writer.put_u8.Lts as lts
-use Rattle.core.proofs.writer.put_byte.Reads as put-byte-reads
 
 put-byte-requires : tie.Need-put-byte-requires
 put-byte-requires c κs = search needs

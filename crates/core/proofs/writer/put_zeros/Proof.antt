@@ -6,9 +6,6 @@ use Rattle.core.proofs.Puts.{_then_, put-none, put-as, replicate-more}
 use native.Mathlib.Omega.{arith}
 use Rattle.core.proofs.writer.put_zeros.Statement.{statement}
 use Rattle.core.proofs.writer.put_zeros.Tie as tie
-use Rattle.core.proofs.writer.put_zeros.Reads as reads
-use Rattle.core.proofs.writer.put_zeros.Lts as lts
-use Rattle.core.proofs.writer.put_byte.Reads as put-byte-reads
 
 abbrev Inv-loop : tie.InvT-loop
 Inv-loop out₀ p n q₀ i₀ out q i = (i ≤ n) × Put out₀ p i (replicate i 0) q out

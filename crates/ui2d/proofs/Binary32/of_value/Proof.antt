@@ -1,5 +1,3 @@
-use mathlib.Core.Path.{refl, ap, _∙_}
-use Rattle.ui2d.specs.Floats.{bitsOf}
 use Rattle.ui2d.proofs.Floats.{no-nan, only-nan, bits-nan}
 use borrow.Author.Needs.{needs}
 use Rattle.ui2d.proofs.Binary32.of_value.Statement.{statement}

@@ -2,8 +2,6 @@ use Rattle.ui2d.proofs.Here.{color-made}
 use borrow.Author.Needs.{needs}
 use Rattle.ui2d.proofs.fixed.color_at.Statement.{statement}
 use Rattle.ui2d.proofs.fixed.color_at.Tie as tie
-use Rattle.ui2d.proofs.fixed.color_at.Reads as reads
-use Rattle.ui2d.proofs.fixed.color_at.Lts as lts
 
 shared-slice-read-t5 : tie.Need-shared-slice-read-t5
 shared-slice-read-t5 c = search needs

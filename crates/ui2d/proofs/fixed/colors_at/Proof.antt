@@ -2,9 +2,6 @@ use Rattle.ui2d.proofs.Here.{colors-made}
 use borrow.Author.Needs.{needs}
 use Rattle.ui2d.proofs.fixed.colors_at.Statement.{statement}
 use Rattle.ui2d.proofs.fixed.colors_at.Tie as tie
-use Rattle.ui2d.proofs.fixed.colors_at.Reads as reads
-use Rattle.ui2d.proofs.fixed.colors_at.Lts as lts
-use Rattle.ui2d.proofs.fixed.color_at.Reads as color-at-reads
 
 color-at-requires : tie.Need-color-at-requires
 color-at-requires c κs = search needs

@@ -2,9 +2,6 @@ use Rattle.ui2d.proofs.Here.{quad-made}
 use borrow.Author.Needs.{needs}
 use Rattle.ui2d.proofs.fixed.quad_at.Statement.{statement}
 use Rattle.ui2d.proofs.fixed.quad_at.Tie as tie
-use Rattle.ui2d.proofs.fixed.quad_at.Reads as reads
-use Rattle.ui2d.proofs.fixed.quad_at.Lts as lts
-use Rattle.ui2d.proofs.fixed.vector2_at.Reads as vector2-at-reads
 
 vector2-at-requires : tie.Need-vector2-at-requires
 vector2-at-requires c κs = search needs

@@ -5,10 +5,6 @@ use borrow.Author.Needs.{needs}
 use native.Mathlib.Omega.{arith}
 use Rattle.ui2d.proofs.quads.fill_quads.Statement.{statement}
 use Rattle.ui2d.proofs.quads.fill_quads.Tie as tie
-use Rattle.ui2d.proofs.quads.fill_quads.Reads as reads
-use Rattle.ui2d.proofs.quads.fill_quads.Lts as lts
-use Rattle.ui2d.proofs.fixed.quad_at.Reads as quad-at-reads
-use Rattle.ui2d.proofs.store_quad.Reads as store-quad-reads
 
 abbrev Inv-loop : tie.InvT-loop
 Inv-loop order «data» at n list₀ i₀ list i = Filled order 4 «data» at (8 * n) list₀ list (8 * i)

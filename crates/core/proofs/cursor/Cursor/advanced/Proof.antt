@@ -2,8 +2,6 @@ use Rattle.core.specs.Taken.{advanced}
 use borrow.Author.Needs.{needs}
 use Rattle.core.proofs.cursor.Cursor.advanced.Statement.{statement}
 use Rattle.core.proofs.cursor.Cursor.advanced.Tie as tie
-use Rattle.core.proofs.cursor.Cursor.advanced.Reads as reads
-use Rattle.core.proofs.cursor.Cursor.advanced.Lts as lts
 
 add-t3 : tie.Need-add-t3
 add-t3 c = search needs

@@ -2,8 +2,6 @@ use Rattle.core.specs.Taken.{moved}
 use borrow.Author.Needs.{needs}
 use Rattle.core.proofs.cursor.Cursor.moved.Statement.{statement}
 use Rattle.core.proofs.cursor.Cursor.moved.Tie as tie
-use Rattle.core.proofs.cursor.Cursor.moved.Reads as reads
-use Rattle.core.proofs.cursor.Cursor.moved.Lts as lts
 
 returns : tie.Need-returns
 unfolding moved

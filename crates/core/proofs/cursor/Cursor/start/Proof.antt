@@ -2,8 +2,6 @@ use Rattle.core.specs.Taken.{start}
 use borrow.Author.Needs.{needs}
 use Rattle.core.proofs.cursor.Cursor.start.Statement.{statement}
 use Rattle.core.proofs.cursor.Cursor.start.Tie as tie
-use Rattle.core.proofs.cursor.Cursor.start.Reads as reads
-use Rattle.core.proofs.cursor.Cursor.start.Lts as lts
 
 returns : tie.Need-returns
 unfolding start

@@ -82,17 +82,6 @@ pub fn fill_u16s(order: ByteOrder, data: &[u8], at: usize, n: usize, out: &mut [
     }
 }
 
-pub fn fill_u32s(order: ByteOrder, data: &[u8], at: usize, n: usize, out: &mut [u32])
-    requires { ⌜ Room (now «data») at (4 * n) × (n ≤ length (now out)) ⌝ }
-    ensures { λ _. ⌜ now (out .exit) ≡ numbersAt order 4 n (now («data» .entry)) at ++ drop n (now (out .entry)) ⌝ }
-{
-    let mut i = 0;
-    while i < n {
-        out[i] = cursor::u32_at(order, data, at + 4 * i);
-        i += 1;
-    }
-}
-
 // ---- written
 
 pub fn put_u16s(order: ByteOrder, out: &mut [u8], p: usize, list: &[u16]) -> usize
@@ -103,19 +92,6 @@ pub fn put_u16s(order: ByteOrder, out: &mut [u8], p: usize, list: &[u16]) -> usi
     let mut i = 0;
     while i < list.len() {
         q = writer::put_u16(order, out, q, list[i]);
-        i += 1;
-    }
-    q
-}
-
-pub fn put_u32s(order: ByteOrder, out: &mut [u8], p: usize, list: &[u32]) -> usize
-    requires { ⌜ Room (now out) p (4 * length (now list)) ⌝ }
-    ensures { λ r. ⌜ Put (now (out .entry)) p (4 * length (now (list .entry))) (bytesOfAll order 4 (now (list .entry))) r (now (out .exit)) ⌝ }
-{
-    let mut q = p;
-    let mut i = 0;
-    while i < list.len() {
-        q = writer::put_u32(order, out, q, list[i]);
         i += 1;
     }
     q

@@ -39,7 +39,7 @@ fn section_size(n: usize) -> usize
     8 + n + writer::padding_at(n)
 }
 
-// 1, 2, 9 of the names, and 10
+// 1, 2, 9 of the names, and 10.
 fn base_checked(base: Pane, length: usize, place: usize) -> Place
     ensures { λ a. ⌜ a ≡ reserveChecked (namesChecked (sectionStart length place) base) base ⌝ }
 {
@@ -48,7 +48,7 @@ fn base_checked(base: Pane, length: usize, place: usize) -> Place
     reserve_checked(p, base)
 }
 
-// The same with 1 and 9 of a label
+// The same, with 1 and 9 of a label.
 fn labelled_checked(base: Pane, label: Label, bytes: &[u8], length: usize, place: usize) -> Place
     ensures { λ a. ⌜ a ≡ reserveChecked (labelNameChecked (namesChecked (sectionChecked (labelLengthChecked (lengthChecked (Place.At (start place)) length) (labelPart label (now (bytes .entry)))) length place) base) (labelPart label (now (bytes .entry)))) base ⌝ }
 {
@@ -80,7 +80,9 @@ fn put_header(order: ByteOrder, out: &mut [u8], p: usize, kind: Kind, n: usize) 
     writer::put_u32(order, out, q, size as u32)
 }
 
-// The section of a base pane at a place: checks 1, 2, 9, 10 and 16.
+// ---- the section at a place, by kind. A refusal leaves the output as it was; an accepted write answers its end, and changes no byte but its own.
+
+// A base pane: checks 1, 2, 9, 10 and 16.
 pub fn write_pan1(order: ByteOrder, base: Pane, out: &mut [u8], place: usize) -> Written
     ensures { λ a. ⌜ a ≡ writeAnswer (whole (pan1 base) [] [] [] [] []) (length (now (out .entry))) place ⌝ }
     ensures { λ _. ⌜ now (out .exit) ≡ writeOutput order (whole (pan1 base) [] [] [] [] []) (now (out .entry)) place ⌝ }
@@ -98,7 +100,7 @@ pub fn write_pan1(order: ByteOrder, base: Pane, out: &mut [u8], place: usize) ->
     }
 }
 
-// Of a picture pane: 1, 2, 9, 10, 11 and 16.
+// A picture pane: checks 1, 2, 9, 10, 11 and 16.
 pub fn write_pic1(
     order: ByteOrder,
     base: Pane,
@@ -132,7 +134,7 @@ pub fn write_pic1(
     }
 }
 
-// Of a text box: 1, 2, 9, 10, 11, 13, 14, 15 and 16.
+// A text box: checks 1, 2, 9, 10, 11, 13, 14, 15 and 16.
 pub fn write_txt1(
     order: ByteOrder,
     base: Pane,
@@ -180,7 +182,7 @@ pub fn write_txt1(
     }
 }
 
-// Of a window pane: 1, 2, 9, 10, 11, 12 and 16.
+// A window pane: checks 1, 2, 9, 10, 11, 12 and 16.
 pub fn write_wnd1(
     order: ByteOrder,
     base: Pane,
@@ -216,7 +218,7 @@ pub fn write_wnd1(
     }
 }
 
-// Of an alignment pane: 1, 2, 9, 10 and 16.
+// An alignment pane: checks 1, 2, 9, 10 and 16.
 pub fn write_ali1(
     order: ByteOrder,
     base: Pane,
@@ -240,7 +242,7 @@ pub fn write_ali1(
     }
 }
 
-// The section at a place: checks 1, 2, 9, 10, the kind's own, 16. A refusal leaves the output as it was; an accepted write answers its end, and changes no byte but its own.
+// The section of a record at a place: the write of its kind.
 // The lists and the label of a kind that lacks them are not looked at.
 pub fn write_section(
     order: ByteOrder,

@@ -59,8 +59,8 @@ pub const TABLE_3_7: [Row; 9] = [
     },
 ];
 
-// The row whose first place takes b, or a row of no places. It is handed on field by field: the compiler then unrolls the
-// search, and copies no table to the stack.
+// The row whose first place takes b, or a row of no places. It is handed on field by field: the compiler then does not copy
+// the bounds of all rows to the stack.
 fn row_of(b: u8) -> Row
     ensures { λ r. ⌜ r ≡ rowOf table b ⌝ }
 {

@@ -154,7 +154,7 @@ module _ (order : ByteOrder) (s : List ℕ) where
   unfolding windowTaken windowOf
   window-ahead p body c e = through _ _ _ _ _ _ _ _ _ _ _ _ _ c refl refl refl refl refl refl e
 
--- ---- numbers that stand, as `fill_u32s` leaves them
+-- ---- numbers that stand, as the list gets them
 
 pub filled-here : (order : ByteOrder) (s : List ℕ) (n : ℕ) (p : Place) (c : Cursor) (old new : List ℕ) → p ≡ At c → Ahead s p (4 * n)
     → new ≡ numbersAt order 4 n s (c .pos) ++ drop n old → new ≡ over (numbersTaken order 4 n s p .value) old

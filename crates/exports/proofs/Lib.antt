@@ -1,2 +1,3 @@
 mod Outcomes
+mod Writing
 pub mod Handed

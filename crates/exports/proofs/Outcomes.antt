@@ -13,7 +13,7 @@ use Rattle.core.specs.declared.checks.Written.{Written}
 use Rattle.text_box_read.specs.Caption.{within}
 use Rattle.text_box_read.specs.declared.Label.{Label}
 use Rattle.text_box_read.specs.declared.Label.the-variants as label
-use Rattle.strip_kinds.specs.Whole.{Lists, lists, Whole, whole}
+use Rattle.strip_kinds.specs.Whole.{Lists, lists}
 use Rattle.strip_read.specs.Read.{readSection, listsAfter}
 use Rattle.strip_write.specs.Write.{writeAnswer, writeOutput}
 use Rattle.strip_kinds.specs.declared.kind.Kind.{Kind}
@@ -23,7 +23,7 @@ use Rattle.strip_kinds.specs.declared.body.BodyRead.{BodyRead}
 use Rattle.strip_read.specs.declared.read.Section.{Section}
 use Rattle.strip_read.specs.declared.read.SectionRead.{SectionRead}
 use Rattle.flat.specs.Words.{Stored}
-use Rattle.flat.specs.Records.{kindOf, recordWords, recordBy, recordOf}
+use Rattle.flat.specs.Records.{kindOf, recordWords, recordBy}
 use Rattle.flat.specs.Below.{wordsChecked}
 use Rattle.flat.specs.declared.bounds.Checked.{Checked}
 use Rattle.flat.specs.declared.bounds.Checked.the-variants.{Good, Bad}
@@ -95,13 +95,11 @@ module _ (w : List ℕ) (l : Lists) (name o : List ℕ) (p : ℕ) (x : Answer) w
   unfolding sectionWritten
   written-bad c i h ec ei e = ap (λ (a : Answer). writeOutcome a o) e ∙ of-bad w (λ (a : Answer). writeOutcome a o) _ i h (sym ec ∙ ei)
 
-  pub section-written : (o′ : List ℕ) (c : Checked) (k : Kind) (r : Record) (v : Written) → 116 ≤ length w → c ≡ wordsChecked w → c ≡ Good → k ≡ kindOf (getD w 0 0) → r ≡ recordBy k w
-      → v ≡ writeAnswer (record { pane = r; lists = l; label = name }) (length o) p → o′ ≡ writeOutput Little (record { pane = r; lists = l; label = name }) o p
+  pub section-written : (o′ : List ℕ) (c : Checked) (k : Kind) (v : Written) → 116 ≤ length w → c ≡ wordsChecked w → c ≡ Good → k ≡ kindOf (getD w 0 0)
+      → v ≡ writeAnswer (record { pane = recordBy k w; lists = l; label = name }) (length o) p → o′ ≡ writeOutput Little (record { pane = recordBy k w; lists = l; label = name }) o p
       → x ≡ writtenAnswer v → writeOutcome x o′ ≡ sectionWritten w l name o p
   unfolding sectionWritten
-  section-written o′ c k r v h ec eg ek er ev eo ex =
-      let e : r ≡ recordOf w = er ∙ ap (λ (j : Kind). recordBy j w) ek in
-      rw (ex, ev, eo, e) (of-good w (λ (a : Answer). writeOutcome a o) _ h (sym ec ∙ eg))
+  section-written o′ c k v h ec eg ek ev eo ex = rw (ex, ev, eo, ek) (of-good w (λ (a : Answer). writeOutcome a o) _ h (sym ec ∙ eg))
 
   pub body-written-short : length w < 116 → x ≡ shortRecord → writeOutcome x o ≡ bodyWritten w l name o p
   unfolding bodyWritten
@@ -111,18 +109,11 @@ module _ (w : List ℕ) (l : Lists) (name o : List ℕ) (p : ℕ) (x : Answer) w
   unfolding bodyWritten
   body-written-bad c i h ec ei e = ap (λ (a : Answer). writeOutcome a o) e ∙ of-bad w (λ (a : Answer). writeOutcome a o) _ i h (sym ec ∙ ei)
 
-  pub body-written : (o′ : List ℕ) (c : Checked) (k : Kind) (r : Record) (v : Written) → 116 ≤ length w → c ≡ wordsChecked w → c ≡ Good → k ≡ kindOf (getD w 0 0) → r ≡ recordBy k w
-      → v ≡ bodyAnswer (r .kind) (record { pane = r; lists = l; label = name }) (length o) p → o′ ≡ bodyOutput (r .kind) (record { pane = r; lists = l; label = name }) o p
+  pub body-written : (o′ : List ℕ) (c : Checked) (k : Kind) (v : Written) → 116 ≤ length w → c ≡ wordsChecked w → c ≡ Good → k ≡ kindOf (getD w 0 0)
+      → v ≡ bodyAnswer k (record { pane = recordBy k w; lists = l; label = name }) (length o) p → o′ ≡ bodyOutput k (record { pane = recordBy k w; lists = l; label = name }) o p
       → x ≡ writtenAnswer v → writeOutcome x o′ ≡ bodyWritten w l name o p
-  unfolding bodyWritten
-  body-written o′ c k r v h ec eg ek er ev eo ex =
-      let e : r ≡ recordOf w = er ∙ ap (λ (j : Kind). recordBy j w) ek in
-      rw (ex, ev, eo, e) (of-good w (λ (a : Answer). writeOutcome a o) _ h (sym ec ∙ eg))
-
--- the body of a record
-module _ (x : Whole) (n p : ℕ) (o o′ : List ℕ) (v : Written) where
-  pub wrote-as : (k e : Kind) → k ≡ e → v ≡ bodyAnswer e x n p → o′ ≡ bodyOutput e x o p → (v ≡ bodyAnswer k x n p) × (o′ ≡ bodyOutput k x o p)
-  wrote-as k e ek ev eo = rw ek (ev, eo)
+  unfolding bodyWritten recordBy
+  body-written o′ c k v h ec eg ek ev eo ex = rw (ex, ev, eo, ek) (of-good w (λ (a : Answer). writeOutcome a o) _ h (sym ec ∙ eg))
 
 -- ---- the label and the caption
 

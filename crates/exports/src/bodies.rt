@@ -2,15 +2,22 @@
 use core::checks::Parsed;
 use core::checks::Written;
 use core::cursor::ByteOrder;
+use flat::ali1;
+use flat::base;
+use flat::pic1;
+use flat::txt1;
+use flat::wnd1;
 use strip::kind::Kind;
 use strip::read::BodyRead;
 use strip::record::Record;
+ghost use Prim.Native.Nat.{_≤_};
 ghost use mathlib.Core.Path.{_≡_};
 ghost use mathlib.Core.List.{[]};
 ghost use lib.ListN.{length};
 ghost use Rattle.picture.specs.Body.{quadsParsed};
 ghost use Rattle.window.specs.Body.{parsedQuads, parsedFrames};
 ghost use Rattle.strip_kinds.specs.Whole.{lists, noLists, whole};
+ghost use Rattle.flat.specs.Records.{recordBy};
 ghost use Rattle.exports.specs.Calls.{bodyParsed, unitsParsed, linesParsed, bodyLists, bodyAnswer, bodyOutput};
 
 fn parse_pan1(data: &[u8], place: usize) -> BodyRead
@@ -143,9 +150,10 @@ pub(crate) fn parse(
     }
 }
 
-// The body of a record at a place.
+// The body of a record of a kind at a place.
 pub(crate) fn write(
-    r: Record,
+    kind: Kind,
+    words: &[u64],
     quads: &[u32],
     units: &[u16],
     lines: &[u32],
@@ -154,19 +162,29 @@ pub(crate) fn write(
     out: &mut [u8],
     place: usize,
 ) -> Written
-    ensures { λ a. ⌜ a ≡ bodyAnswer (r .kind) (whole r (now (quads .entry)) (now (units .entry)) (now (lines .entry)) (now (frames .entry)) (now (label .entry))) (length (now (out .entry))) place ⌝ }
-    ensures { λ _. ⌜ now (out .exit) ≡ bodyOutput (r .kind) (whole r (now (quads .entry)) (now (units .entry)) (now (lines .entry)) (now (frames .entry)) (now (label .entry))) (now (out .entry)) place ⌝ }
+    requires { ⌜ 116 ≤ length (now words) ⌝ }
+    ensures { λ a. ⌜ a ≡ bodyAnswer kind (whole (recordBy kind (now (words .entry))) (now (quads .entry)) (now (units .entry)) (now (lines .entry)) (now (frames .entry)) (now (label .entry))) (length (now (out .entry))) place ⌝ }
+    ensures { λ _. ⌜ now (out .exit) ≡ bodyOutput kind (whole (recordBy kind (now (words .entry))) (now (quads .entry)) (now (units .entry)) (now (lines .entry)) (now (frames .entry)) (now (label .entry))) (now (out .entry)) place ⌝ }
 {
-    let kind = r.kind;
-    let base = r.base;
+    let base = base::base_of(words);
     let order = ByteOrder::Little;
     match kind {
         Kind::Pan1 => pane::body::write(order, base, out, place),
-        Kind::Pic1 => picture::body::write(order, base, r.picture, quads, out, place),
-        Kind::Txt1 => {
-            text_box::body::write(order, base, r.text_box, units, lines, label, out, place)
+        Kind::Pic1 => {
+            let own = pic1::picture_of(words);
+            picture::body::write(order, base, own, quads, out, place)
         }
-        Kind::Wnd1 => window::body::write(order, base, r.window, quads, frames, out, place),
-        Kind::Ali1 => alignment::body::write(order, base, r.alignment, out, place),
+        Kind::Txt1 => {
+            let own = txt1::text_box_of(words);
+            text_box::body::write(order, base, own, units, lines, label, out, place)
+        }
+        Kind::Wnd1 => {
+            let own = wnd1::window_of(words);
+            window::body::write(order, base, own, quads, frames, out, place)
+        }
+        Kind::Ali1 => {
+            let own = ali1::alignment_of(words);
+            alignment::body::write(order, base, own, out, place)
+        }
     }
 }

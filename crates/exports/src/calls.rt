@@ -2,6 +2,7 @@
 use crate::answers;
 use crate::answers::Answer;
 use crate::bodies;
+use crate::sections;
 use core::checks::Parsed;
 use core::cursor::ByteOrder;
 use flat::bounds;
@@ -133,19 +134,7 @@ pub(crate) fn write_section(
         Checked::Bad { index } => answers::bad_word(index),
         Checked::Good => {
             let kind = records::kind_of(words[layout::KIND]);
-            let r = records::record_of(words, kind);
-            let order = ByteOrder::Little;
-            let w = strip::write::write_section(
-                order,
-                r,
-                quads,
-                units,
-                lines,
-                frames,
-                label,
-                out,
-                place,
-            );
+            let w = sections::write(kind, words, quads, units, lines, frames, label, out, place);
             answers::written(w)
         }
     }
@@ -171,8 +160,7 @@ pub(crate) fn write_body(
         Checked::Bad { index } => answers::bad_word(index),
         Checked::Good => {
             let kind = records::kind_of(words[layout::KIND]);
-            let r = records::record_of(words, kind);
-            let w = bodies::write(r, quads, units, lines, frames, label, out, place);
+            let w = bodies::write(kind, words, quads, units, lines, frames, label, out, place);
             answers::written(w)
         }
     }

@@ -3,6 +3,7 @@
 mod answers;
 mod bodies;
 mod calls;
+mod sections;
 
 use flat::layout;
 ghost use mathlib.Core.Path.{_≡_};

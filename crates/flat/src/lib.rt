@@ -1,11 +1,11 @@
 // A record as a flat run of words, as layout.rt says.
-mod ali1;
-mod base;
+pub mod ali1;
+pub mod base;
 pub mod bounds;
 pub mod layout;
-mod pic1;
+pub mod pic1;
 pub mod records;
 pub mod txt1;
 pub mod typed;
-mod wnd1;
+pub mod wnd1;
 mod words;

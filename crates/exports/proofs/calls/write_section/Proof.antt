@@ -8,9 +8,8 @@ use Rattle.exports.proofs.answers.bad_word.Reads as bad-word-reads
 use Rattle.exports.proofs.answers.short_record.Reads as short-record-reads
 use Rattle.exports.proofs.answers.written.Reads as written-reads
 use Rattle.exports.proofs.calls.record_checked.Reads as record-checked-reads
+use Rattle.exports.proofs.sections.write.Reads as write-reads
 use Rattle.flat.proofs.records.kind_of.Reads as kind-of-reads
-use Rattle.flat.proofs.records.record_of.Reads as record-of-reads
-use Rattle.strip_write.proofs.write.write_section.Reads as write-section-reads
 
 short-record-requires : tie.Need-short-record-requires
 short-record-requires c κs = search needs
@@ -36,11 +35,8 @@ shared-slice-read-kind-of c = search needs
 kind-of-requires : tie.Need-kind-of-requires
 kind-of-requires c κs = search needs
 
-record-of-requires : tie.Need-record-of-requires
-record-of-requires c κs = search needs
-
-write-section-requires : tie.Need-write-section-requires
-write-section-requires c κs = search needs
+write-requires : tie.Need-write-requires
+write-requires c κs = search needs
 
 written-requires : tie.Need-written-requires
 written-requires c κs = search needs
@@ -52,7 +48,7 @@ same-length : tie.Need-same-length
 same-length c = search needs
 
 returns-3 : tie.Need-returns-3
-returns-3 c = section-written _ _ _ _ _ _ _ _ _ _ _ (c .before .before .before .before .before .before .before .before .before .before .before .if1 .left) (c .before .before .before .before .before .before .before .before .before .before .record-checked .ensures) (c .before .before .before .before .before .before .before .before .enum-told .given .1) (c .before .before .before .before .before .before .kind-of .ensures) (c .before .before .before .before .before .record-of .ensures) (c .before .before .before .write-section .ensures .0) (c .before .before .before .write-section .ensures .1) (c .written .ensures)
+returns-3 c = section-written _ _ _ _ _ _ _ _ _ _ (c .before .before .before .before .before .before .before .before .before .before .if1 .left) (c .before .before .before .before .before .before .before .before .before .record-checked .ensures) (c .before .before .before .before .before .before .before .enum-told .given .1) (c .before .before .before .before .before .kind-of .ensures) (c .before .before .before .write .ensures .0) (c .before .before .before .write .ensures .1) (c .written .ensures)
 
 pub write-section-spec : {M : Type 1} → statement M
 write-section-spec =
@@ -66,8 +62,7 @@ write-section-spec =
     enum-told
     shared-slice-read-kind-of
     kind-of-requires
-    record-of-requires
-    write-section-requires
+    write-requires
     written-requires
     returns-2
     same-length

@@ -1,2 +1,2 @@
 mod Outcomes
-pub mod Handed
+pub mod Parts

@@ -5,8 +5,10 @@ use mathlib.Core.List.{List, []}
 use lib.ListN.{take}
 use Rattle.pane.specs.Pane.{blankPane}
 use Rattle.pane.specs.Same.{SamePane}
+use Rattle.pane.specs.declared.Pane.{Pane}
 use Rattle.picture.specs.Picture.{blankPicture}
 use Rattle.picture.specs.Same.{SamePicture}
+use Rattle.picture.specs.declared.PicturePane.{PicturePane}
 use Rattle.text_box_read.specs.TextBox.{blankTextBox}
 use Rattle.text_box_read.specs.Caption.{labelOf}
 use Rattle.text_box.specs.Same.{SameTextBox}
@@ -15,9 +17,12 @@ use Rattle.text_box_read.specs.declared.Text.{Text}
 use Rattle.text_box_read.specs.declared.Text.the-variants as text
 use Rattle.text_box_read.specs.declared.LineTable.{LineTable}
 use Rattle.text_box_read.specs.declared.LineTable.the-variants as line
+use Rattle.text_box_read.specs.declared.TextBoxPane.{TextBoxPane}
 use Rattle.window_read.specs.Window.{blankWindow}
 use Rattle.window.specs.Same.{SameWindow}
+use Rattle.window_read.specs.declared.WindowPane.{WindowPane}
 use Rattle.alignment.specs.Alignment.{blankAlignment}
+use Rattle.alignment.specs.declared.AlignmentPane.{AlignmentPane}
 use Rattle.strip.specs.declared.kind.Kind.{Kind}
 use Rattle.strip.specs.declared.kind.Kind.the-variants.{Pan1, Pic1, Txt1, Wnd1, Ali1}
 use Rattle.strip.specs.declared.record.Record.{Record}
@@ -91,6 +96,27 @@ blankRecord = record {
   window = blankWindow;
   alignment = blankAlignment;
 }
+
+-- a record of each kind: what the other kinds have is blank
+abbrev pub pan1 : Pane → Record
+pan1 base =
+    record { kind = Pan1; base = base; picture = blankPicture; «text_box» = blankTextBox; window = blankWindow; alignment = blankAlignment }
+
+abbrev pub pic1 : Pane → PicturePane → Record
+pic1 base x =
+    record { kind = Pic1; base = base; picture = x; «text_box» = blankTextBox; window = blankWindow; alignment = blankAlignment }
+
+abbrev pub txt1 : Pane → TextBoxPane → Record
+txt1 base x =
+    record { kind = Txt1; base = base; picture = blankPicture; «text_box» = x; window = blankWindow; alignment = blankAlignment }
+
+abbrev pub wnd1 : Pane → WindowPane → Record
+wnd1 base x =
+    record { kind = Wnd1; base = base; picture = blankPicture; «text_box» = blankTextBox; window = x; alignment = blankAlignment }
+
+abbrev pub ali1 : Pane → AlignmentPane → Record
+ali1 base x =
+    record { kind = Ali1; base = base; picture = blankPicture; «text_box» = blankTextBox; window = blankWindow; alignment = x }
 
 -- ---- equality: the kind, and every field of that kind
 

@@ -1,3 +1,3 @@
 mod Outcomes
 mod Writing
-pub mod Handed
+pub mod Parts

@@ -8,66 +8,24 @@ use lib.Dec.{ltb, leb, eqb}
 use borrow.Author.Tests.{lt-ltb, le-ltb, le-leb, lt-leb, eq-eqb, ne-eqb}
 use Rattle.core.specs.Bytes.{splice}
 use Rattle.core.specs.declared.cursor.ByteOrder.the-variants.{Little}
-use Rattle.core.specs.declared.checks.Parsed.{Parsed}
 use Rattle.core.specs.declared.checks.Written.{Written}
 use Rattle.text_box_read.specs.Caption.{within}
 use Rattle.text_box_read.specs.declared.Label.{Label}
 use Rattle.text_box_read.specs.declared.Label.the-variants as label
-use Rattle.strip_kinds.specs.Whole.{Lists, lists}
-use Rattle.strip_read.specs.Read.{readSection, listsAfter}
+use Rattle.strip_kinds.specs.Whole.{Lists, lists, Whole, whole}
 use Rattle.strip_write.specs.Write.{writeAnswer, writeOutput}
 use Rattle.strip_kinds.specs.declared.kind.Kind.{Kind}
-use Rattle.strip_kinds.specs.declared.kind.Kind.the-variants.{Pan1, Pic1, Txt1, Wnd1, Ali1}
 use Rattle.strip_kinds.specs.declared.record.Record.{Record}
-use Rattle.strip_kinds.specs.declared.body.BodyRead.{BodyRead}
-use Rattle.strip_read.specs.declared.read.Section.{Section}
-use Rattle.strip_read.specs.declared.read.SectionRead.{SectionRead}
 use Rattle.flat.specs.Words.{Stored}
 use Rattle.flat.specs.Records.{kindOf, recordWords, recordBy}
 use Rattle.flat.specs.Below.{wordsChecked}
 use Rattle.flat.specs.declared.bounds.Checked.{Checked}
 use Rattle.flat.specs.declared.bounds.Checked.the-variants.{Good, Bad}
-use Rattle.exports.specs.Answers.{shortRecord, badWord, sectionAnswer, writtenAnswer, partAnswer}
-use Rattle.exports.specs.Calls.{ReadOutcome, readOutcome, wordsAfter, delivered, sectionOutcome, bodyParsed, bodyLists, bodySection, bodyDelivered, bodyOutcome, WriteOutcome, writeOutcome, ofRecord, unlessBad, wholeOf, sectionWritten, bodyAnswer, bodyOutput, bodyWritten, labelOfWords, labelPart, captionPart, labelOutcome, captionOutcome, Returned, returned, given, ReadSeen, readSeen, seenRead, WriteSeen, writeSeen, seenWrite, seenPart}
-use Rattle.exports.specs.declared.answers.Answer.{Answer}
-
--- ---- reads
-
--- an answer with the words as the section leaves them
-pub deliver : (s v : Section) (r : Record) (w w′ : List ℕ) (x : Answer) → s ≡ v → x ≡ sectionAnswer v → w′ ≡ wordsAfter v r w
-    → (l : Lists) → readOutcome x w′ l ≡ delivered s r w l
-unfolding delivered
-deliver s v r w w′ x es ex ew l = rw (es, ex, ew)
-
-module _ (s : List ℕ) (p : ℕ) (l : Lists) (w : List ℕ) (x : Answer) where
-  pub section-short : length w < 116 → x ≡ shortRecord → readOutcome x w l ≡ sectionOutcome s p l w
-  unfolding sectionOutcome
-  section-short h e = rw (lt-ltb (length w) 116 h, e)
-
-  pub section-read : (l′ : Lists) (w′ : List ℕ) (r : SectionRead) → 116 ≤ length w → r ≡ readSection Little s p l → l′ ≡ listsAfter Little s p l
-      → ((m : Lists) → readOutcome x w′ m ≡ delivered (r .answer) (r .«record») w m) → readOutcome x w′ l′ ≡ sectionOutcome s p l w
-  unfolding sectionOutcome
-  section-read l′ w′ r h er el d = rw (le-ltb (length w) 116 h, ← er, ← el) (d l′)
-
-module _ (k : ℕ) (s : List ℕ) (p : ℕ) (l : Lists) (w : List ℕ) (x : Answer) where
-  pub body-short : length w < 116 → x ≡ shortRecord → readOutcome x w l ≡ bodyOutcome k s p l w
-  unfolding bodyOutcome
-  body-short h e = rw (lt-ltb (length w) 116 h, e)
-
-  pub body-bad : 116 ≤ length w → 5 ≤ k → x ≡ badWord 0 → readOutcome x w l ≡ bodyOutcome k s p l w
-  unfolding bodyOutcome
-  body-bad h b e = rw (le-ltb (length w) 116 h, le-leb 5 k b, e)
-
-  pub body-read : (l′ : Lists) (w′ : List ℕ) (kind : Kind) (b : BodyRead) (v : Section) → 116 ≤ length w → k < 5 → kind ≡ kindOf k → b ≡ bodyParsed kind s p l → l′ ≡ bodyLists kind s p l
-      → v ≡ bodySection (b .answer) → ((m : Lists) → readOutcome x w′ m ≡ delivered v (b .«record») w m) → readOutcome x w′ l′ ≡ bodyOutcome k s p l w
-  unfolding bodyOutcome bodyDelivered
-  body-read l′ w′ kind b v h g ek eb el ev d = rw (le-ltb (length w) 116 h, lt-leb 5 k g, ← ek, ← eb, ← el, ← ev) (d l′)
-
--- the body of a kind
-module _ (s : List ℕ) (p : ℕ) (k : Kind) (b : BodyRead) (q u n f q′ u′ n′ f′ : List ℕ) where
-  pub parsed-as : (e : Kind) → k ≡ e → b ≡ bodyParsed e s p (lists q u n f) → lists q′ u′ n′ f′ ≡ bodyLists e s p (lists q u n f)
-      → (b ≡ bodyParsed k s p (lists q u n f)) × (lists q′ u′ n′ f′ ≡ bodyLists k s p (lists q u n f))
-  parsed-as e ek eb el = rw ek (eb, el)
+use Rattle.exports_read.specs.Answers.{shortRecord, badWord}
+use Rattle.exports_read.specs.Outcomes.{ReadOutcome, readOutcome}
+use Rattle.exports_read.specs.declared.answers.Answer.{Answer}
+use Rattle.exports.specs.Answers.{writtenAnswer, partAnswer}
+use Rattle.exports.specs.Calls.{WriteOutcome, writeOutcome, ofRecord, unlessBad, wholeOf, sectionWritten, bodyAnswer, bodyOutput, bodyWritten, labelOfWords, labelPart, captionPart, labelOutcome, captionOutcome, Returned, returned, given, ReadSeen, readSeen, seenRead, WriteSeen, writeSeen, seenWrite, seenPart}
 
 -- ---- a call of a record
 

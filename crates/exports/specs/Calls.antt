@@ -3,173 +3,31 @@ use Prim.Native.Nat.{ℕ}
 use mathlib.Core.Bool.{Bool, cond}
 use mathlib.Core.List.{List, []}
 use lib.ListN.{length, getD}
-use lib.Dec.{ltb, leb, eqb}
+use lib.Dec.{ltb, eqb}
 use Rattle.core.specs.Bytes.{splice}
 use Rattle.core.specs.declared.cursor.ByteOrder.the-variants.{Little}
-use Rattle.core.specs.declared.checks.Parsed.{Parsed}
-use Rattle.core.specs.declared.checks.Parsed.the-variants as Parseds
 use Rattle.core.specs.declared.checks.Written.{Written}
-use Rattle.pane.specs.Body.{paneParsed, paneWritten, paneOutput}
-use Rattle.pane.specs.declared.body.PaneParsed.{PaneParsed}
-use Rattle.picture.specs.Picture.{blankPicture}
-use Rattle.picture.specs.Body.{pictureParsed, quadsParsed, pictureWritten, pictureOutput}
-use Rattle.picture.specs.declared.body.PictureParsed.{PictureParsed}
-use Rattle.text_box_read.specs.TextBox.{blankTextBox}
-use Rattle.text_box.specs.Body.{textBoxStart, textBoxRead, unitsAfter, linesAfter, textBoxWritten, textBoxOutput}
+use Rattle.pane.specs.Body.{paneWritten, paneOutput}
+use Rattle.picture.specs.Body.{pictureWritten, pictureOutput}
+use Rattle.text_box.specs.Body.{textBoxWritten, textBoxOutput}
 use Rattle.text_box_read.specs.Caption.{within}
-use Rattle.text_box.specs.declared.body.TextBoxParsed.{TextBoxParsed}
 use Rattle.text_box_read.specs.declared.Label.{Label}
 use Rattle.text_box_read.specs.declared.Label.the-variants as label
-use Rattle.window_read.specs.Window.{blankWindow}
-use Rattle.window.specs.Body.{windowParsed, parsedQuads, parsedFrames, windowWritten, windowOutput}
-use Rattle.window.specs.declared.body.WindowParsed.{WindowParsed}
-use Rattle.alignment.specs.Alignment.{blankAlignment}
-use Rattle.alignment.specs.Body.{alignmentParsed, alignmentWritten, alignmentOutput}
-use Rattle.alignment.specs.declared.body.AlignmentParsed.{AlignmentParsed}
-use Rattle.strip_kinds.specs.Whole.{Lists, lists, Whole}
-use Rattle.strip_read.specs.Read.{readSection, listsAfter}
+use Rattle.window.specs.Body.{windowWritten, windowOutput}
+use Rattle.alignment.specs.Body.{alignmentWritten, alignmentOutput}
+use Rattle.strip_kinds.specs.Whole.{Lists, Whole}
 use Rattle.strip_write.specs.Write.{writeAnswer, writeOutput}
 use Rattle.strip_kinds.specs.declared.kind.Kind.{Kind}
 use Rattle.strip_kinds.specs.declared.kind.Kind.the-variants.{Pan1, Pic1, Txt1, Wnd1, Ali1}
-use Rattle.strip_kinds.specs.declared.record.Record.{Record}
-use Rattle.strip_kinds.specs.declared.body.BodyRead.{BodyRead}
-use Rattle.strip_read.specs.declared.read.Section.{Section}
-use Rattle.strip_read.specs.declared.read.Section.the-variants as Sections
-use Rattle.strip_read.specs.declared.read.SectionRead.{SectionRead}
 use Rattle.flat.specs.Own.{labelAt}
-use Rattle.flat.specs.Records.{kindOf, recordWords, recordOf}
+use Rattle.flat.specs.Records.{recordOf}
 use Rattle.flat.specs.Below.{wordsChecked}
-use Rattle.exports.specs.Answers.{answerWords, shortRecord, badWord, sectionAnswer, writtenAnswer, partAnswer}
-use Rattle.exports.specs.declared.answers.Answer.{Answer}
+use Rattle.exports_read.specs.Answers.{shortRecord, badWord}
+use Rattle.exports_read.specs.Outcomes.{ReadOutcome, sectionOutcome, bodyOutcome}
+use Rattle.exports_read.specs.declared.answers.Answer.{Answer}
+use Rattle.exports.specs.Answers.{answerWords, writtenAnswer, partAnswer}
 use Rattle.flat.specs.declared.bounds.Checked.{Checked}
 use Rattle.flat.specs.declared.bounds.Checked.the-variants.{Good, Bad}
-
--- ---- reads
-
--- an answer, with the record's words and the lists after it
-pub record ReadOutcome : Type 0 where
-  pub answer : Answer
-  pub words : List ℕ
-  pub lists : Lists
-
-abbrev pub readOutcome : Answer → List ℕ → Lists → ReadOutcome
-readOutcome x w l = record { answer = x; words = w; lists = l }
-
--- the words of a pane stand at the front; every other answer leaves them
-abbrev pub wordsAfter : Section → Record → List ℕ → List ℕ
-wordsAfter Sections.End r w = w
-wordsAfter (Sections.Passed next) r w = w
-wordsAfter (Sections.Pane end next) r w = splice w 0 (recordWords r)
-wordsAfter (Sections.Refused why) r w = w
-
-unfoldable pub delivered : Section → Record → List ℕ → Lists → ReadOutcome
-delivered s r w l = readOutcome (sectionAnswer s) (wordsAfter s r w) l
-
--- the section at p of s; SHORT_RECORD before it
-unfoldable pub sectionOutcome : List ℕ → ℕ → Lists → List ℕ → ReadOutcome
-sectionOutcome s p l w =
-    let r : SectionRead = readSection Little s p l in
-    cond (ltb (length w) 116) (readOutcome shortRecord w l) (delivered (r .answer) (r .«record») w (listsAfter Little s p l))
-
--- the body of a kind at B, as its body call reads it; what the other kinds have is blank
-unfoldable pub bodyParsed : Kind → List ℕ → ℕ → Lists → BodyRead
-bodyParsed Pan1 s body l =
-    let r : PaneParsed = paneParsed Little s body in
-    record {
-      answer = r .answer;
-      «record» = record {
-        kind = Pan1;
-        base = r .pane;
-        picture = blankPicture;
-        «text_box» = blankTextBox;
-        window = blankWindow;
-        alignment = blankAlignment;
-      };
-    }
-bodyParsed Pic1 s body l =
-    let r : PictureParsed = pictureParsed Little s body (length (l .quads)) in
-    record {
-      answer = r .answer;
-      «record» = record {
-        kind = Pic1;
-        base = r .base;
-        picture = r .picture;
-        «text_box» = blankTextBox;
-        window = blankWindow;
-        alignment = blankAlignment;
-      };
-    }
-bodyParsed Txt1 s body l =
-    let r : TextBoxParsed = textBoxRead Little s (textBoxStart (length s) (length (l .units)) (length (l .lines)) body) body in
-    record {
-      answer = r .answer;
-      «record» = record {
-        kind = Txt1;
-        base = r .base;
-        picture = blankPicture;
-        «text_box» = r .«text_box»;
-        window = blankWindow;
-        alignment = blankAlignment;
-      };
-    }
-bodyParsed Wnd1 s body l =
-    let r : WindowParsed = windowParsed Little s body (l .quads) (l .frames) in
-    record {
-      answer = r .answer;
-      «record» = record {
-        kind = Wnd1;
-        base = r .base;
-        picture = blankPicture;
-        «text_box» = blankTextBox;
-        window = r .window;
-        alignment = blankAlignment;
-      };
-    }
-bodyParsed Ali1 s body l =
-    let r : AlignmentParsed = alignmentParsed Little s body in
-    record {
-      answer = r .answer;
-      «record» = record {
-        kind = Ali1;
-        base = r .base;
-        picture = blankPicture;
-        «text_box» = blankTextBox;
-        window = blankWindow;
-        alignment = r .alignment;
-      };
-    }
-
--- the lists after it
-abbrev pub unitsParsed : List ℕ → ℕ → List ℕ → List ℕ → List ℕ
-unitsParsed s body units lines = unitsAfter Little s (textBoxStart (length s) (length units) (length lines) body) body units
-
-abbrev pub linesParsed : List ℕ → ℕ → List ℕ → List ℕ → List ℕ
-linesParsed s body units lines = linesAfter Little s (textBoxStart (length s) (length units) (length lines) body) body lines
-
-unfoldable pub bodyLists : Kind → List ℕ → ℕ → Lists → Lists
-bodyLists Pan1 s body l = l
-bodyLists Pic1 s body l = lists (quadsParsed Little s body (l .quads)) (l .units) (l .lines) (l .frames)
-bodyLists Txt1 s body l = lists (l .quads) (unitsParsed s body (l .units) (l .lines)) (linesParsed s body (l .units) (l .lines)) (l .frames)
-bodyLists Wnd1 s body l =
-    lists (parsedQuads Little s body (l .quads) (l .frames)) (l .units) (l .lines) (parsedFrames Little s body (l .quads) (l .frames))
-bodyLists Ali1 s body l = l
-
--- its answer as that of a section whose next place is 0
-abbrev pub bodySection : Parsed → Section
-bodySection (Parseds.Read end) = Sections.Pane end 0
-bodySection (Parseds.Refused why) = Sections.Refused why
-
-unfoldable pub bodyDelivered : Kind → List ℕ → ℕ → Lists → List ℕ → ReadOutcome
-bodyDelivered kind s body l w =
-    let b : BodyRead = bodyParsed kind s body l in
-    delivered (bodySection (b .answer)) (b .«record») w (bodyLists kind s body l)
-
--- SHORT_RECORD, then BAD_WORD of the kind, then the body at B
-unfoldable pub bodyOutcome : ℕ → List ℕ → ℕ → Lists → List ℕ → ReadOutcome
-bodyOutcome k s body l w =
-    cond (ltb (length w) 116) (readOutcome shortRecord w l)
-    (cond (leb 5 k) (readOutcome (badWord 0) w l)
-    (bodyDelivered (kindOf k) s body l w))
 
 -- ---- writes
 

@@ -1,107 +1,23 @@
-// The calls over the words of a record.
+// The writes, the label and the caption over the words of a record.
 use crate::answers;
-use crate::answers::Answer;
 use crate::bodies;
 use crate::sections;
-use core::checks::Parsed;
 use core::cursor::ByteOrder;
+use exports_read::answers::Answer;
+use exports_read::answers::bad_word;
+use exports_read::answers::short_record;
 use flat::bounds;
 use flat::bounds::Checked;
 use flat::layout;
 use flat::records;
 use flat::txt1;
-use strip::kind::Kind;
-use strip::read::Section;
-use strip::record::Record;
 use text_box::Label;
 ghost use Prim.Native.Nat.{_≤_};
 ghost use lib.ListN.{length};
 ghost use mathlib.Core.Path.{_≡_};
-ghost use Rattle.strip_kinds.specs.Whole.{Lists, lists};
+ghost use Rattle.strip_kinds.specs.Whole.{lists};
 ghost use Rattle.flat.specs.Below.{wordsChecked};
-ghost use Rattle.exports.specs.Calls.{readOutcome, delivered, sectionOutcome, bodySection, bodyOutcome, writeOutcome, sectionWritten, bodyWritten, labelOfWords, labelPart, captionPart, labelOutcome, captionOutcome};
-
-// ---- reads
-
-// The record's words are stored where a pane was read.
-fn deliver(words: &mut [u64], s: Section, r: Record) -> Answer
-    requires { ⌜ 116 ≤ length (now words) ⌝ }
-    ensures { λ a. ⌜ ((l : Lists) → readOutcome a (now (words .exit)) l ≡ delivered s r (now (words .entry)) l) ⌝ }
-{
-    match s {
-        Section::End => answers::section(Section::End),
-        Section::Passed { next } => answers::section(Section::Passed { next }),
-        Section::Pane { end, next } => {
-            records::put_record(words, r);
-            answers::section(Section::Pane { end, next })
-        }
-        Section::Refused(why) => answers::section(Section::Refused(why)),
-    }
-}
-
-pub(crate) fn read_section(
-    data: &[u8],
-    place: usize,
-    quads: &mut [u32],
-    units: &mut [u16],
-    lines: &mut [u32],
-    frames: &mut [u16],
-    words: &mut [u64],
-) -> Answer
-    ensures { λ a. ⌜ readOutcome a (now (words .exit)) (lists (now (quads .exit)) (now (units .exit)) (now (lines .exit)) (now (frames .exit))) ≡ sectionOutcome (now («data» .entry)) place (lists (now (quads .entry)) (now (units .entry)) (now (lines .entry)) (now (frames .entry))) (now (words .entry)) ⌝ }
-{
-    if words.len() < layout::RECORD_WORDS {
-        return answers::short_record();
-    }
-    let read = strip::read::read_section(
-        ByteOrder::Little,
-        data,
-        place,
-        quads,
-        units,
-        lines,
-        frames,
-    );
-    let s = read.answer;
-    let r = read.record;
-    deliver(words, s, r)
-}
-
-// As a section whose next place is 0.
-fn body_section(x: Parsed) -> Section
-    ensures { λ r. ⌜ r ≡ bodySection x ⌝ }
-{
-    match x {
-        Parsed::Read { end } => Section::Pane { end, next: 0 },
-        Parsed::Refused(why) => Section::Refused(why),
-    }
-}
-
-pub(crate) fn read_body(
-    kind: u64,
-    data: &[u8],
-    place: usize,
-    quads: &mut [u32],
-    units: &mut [u16],
-    lines: &mut [u32],
-    frames: &mut [u16],
-    words: &mut [u64],
-) -> Answer
-    ensures { λ a. ⌜ readOutcome a (now (words .exit)) (lists (now (quads .exit)) (now (units .exit)) (now (lines .exit)) (now (frames .exit))) ≡ bodyOutcome kind (now («data» .entry)) place (lists (now (quads .entry)) (now (units .entry)) (now (lines .entry)) (now (frames .entry))) (now (words .entry)) ⌝ }
-{
-    if words.len() < layout::RECORD_WORDS {
-        return answers::short_record();
-    }
-    if 5 <= kind {
-        return answers::bad_word(0);
-    }
-    let k = records::kind_of(kind);
-    let read = bodies::parse(k, data, place, quads, units, lines, frames);
-    let x = read.answer;
-    let s = body_section(x);
-    let r = read.record;
-    deliver(words, s, r)
-}
+ghost use Rattle.exports.specs.Calls.{writeOutcome, sectionWritten, bodyWritten, labelOfWords, labelPart, captionPart, labelOutcome, captionOutcome};
 
 // ---- writes
 
@@ -127,11 +43,11 @@ pub(crate) fn write_section(
     ensures { λ a. ⌜ writeOutcome a (now (out .exit)) ≡ sectionWritten (now (words .entry)) (lists (now (quads .entry)) (now (units .entry)) (now (lines .entry)) (now (frames .entry))) (now (label .entry)) (now (out .entry)) place ⌝ }
 {
     if words.len() < layout::RECORD_WORDS {
-        return answers::short_record();
+        return short_record();
     }
     let c = record_checked(words);
     match c {
-        Checked::Bad { index } => answers::bad_word(index),
+        Checked::Bad { index } => bad_word(index),
         Checked::Good => {
             let kind = records::kind_of(words[layout::KIND]);
             let w = sections::write(kind, words, quads, units, lines, frames, label, out, place);
@@ -153,11 +69,11 @@ pub(crate) fn write_body(
     ensures { λ a. ⌜ writeOutcome a (now (out .exit)) ≡ bodyWritten (now (words .entry)) (lists (now (quads .entry)) (now (units .entry)) (now (lines .entry)) (now (frames .entry))) (now (label .entry)) (now (out .entry)) place ⌝ }
 {
     if words.len() < layout::RECORD_WORDS {
-        return answers::short_record();
+        return short_record();
     }
     let c = record_checked(words);
     match c {
-        Checked::Bad { index } => answers::bad_word(index),
+        Checked::Bad { index } => bad_word(index),
         Checked::Good => {
             let kind = records::kind_of(words[layout::KIND]);
             let w = bodies::write(kind, words, quads, units, lines, frames, label, out, place);
@@ -219,11 +135,11 @@ pub(crate) fn label(data: &[u8], words: &[u64]) -> Answer
     ensures { λ a. ⌜ a ≡ labelOutcome (now («data» .entry)) (now (words .entry)) ⌝ }
 {
     if words.len() < layout::RECORD_WORDS {
-        return answers::short_record();
+        return short_record();
     }
     let c = record_checked(words);
     match c {
-        Checked::Bad { index } => answers::bad_word(index),
+        Checked::Bad { index } => bad_word(index),
         Checked::Good => {
             let l = label_of(words);
             label_part(data, l)
@@ -235,11 +151,11 @@ pub(crate) fn caption(strip: &[u8], words: &[u64], lent: &[u8]) -> Answer
     ensures { λ a. ⌜ a ≡ captionOutcome (now (strip .entry)) (now (words .entry)) (now (lent .entry)) ⌝ }
 {
     if words.len() < layout::RECORD_WORDS {
-        return answers::short_record();
+        return short_record();
     }
     let c = record_checked(words);
     match c {
-        Checked::Bad { index } => answers::bad_word(index),
+        Checked::Bad { index } => bad_word(index),
         Checked::Good => {
             let l = label_of(words);
             caption_part(strip, l, lent)

@@ -5,6 +5,7 @@ mod bodies;
 mod calls;
 mod sections;
 
+use exports_read::reads;
 use flat::layout;
 ghost use mathlib.Core.Path.{_≡_};
 ghost use Rattle.strip_kinds.specs.Whole.{lists};
@@ -27,7 +28,7 @@ pub extern "C" fn bidlomeqa_read_section(
     if answer.len() < layout::ANSWER_WORDS {
         return layout::SHORT_ANSWER;
     }
-    let x = calls::read_section(data, place, quads, units, lines, frames, record);
+    let x = reads::read_section(data, place, quads, units, lines, frames, record);
     answers::give(answer, x)
 }
 
@@ -49,7 +50,7 @@ pub extern "C" fn bidlomeqa_read_body(
     if answer.len() < layout::ANSWER_WORDS {
         return layout::SHORT_ANSWER;
     }
-    let x = calls::read_body(kind, data, place, quads, units, lines, frames, record);
+    let x = reads::read_body(kind, data, place, quads, units, lines, frames, record);
     answers::give(answer, x)
 }
 

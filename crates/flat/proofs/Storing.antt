@@ -23,6 +23,15 @@ pub stored-nothing : (o : List ℕ) (p : ℕ) → Stored o p [] o
 unfolding splice
 stored-nothing o p = record { long = refl; words = refl }
 
+-- one word
+pub stored-one : (o : List ℕ) (p v : ℕ) → Stored o p (v ∷ []) (set o p v)
+unfolding splice
+stored-one o p v = record { long = length-set o p v; words = refl }
+
+-- a kind's own words after its number and the base
+pub stored-own : {o o₁ o₂ : List ℕ} {k : ℕ} {b e : List ℕ} → Stored o 0 ((k ∷ []) ++ b) o₁ → length b ≡ 61 → Stored o₁ 62 e o₂ → Stored o 0 ((k ∷ []) ++ (b ++ e)) o₂
+stored-own h n x = next (omega (arith, n)) h x
+
 -- ---- a loop that stores the numbers of a list
 
 pub stored-none : (o : List ℕ) (p : ℕ) (s : List ℕ) → Stored o p (take 0 s) o
@@ -30,11 +39,9 @@ unfolding splice
 stored-none o p s = record { long = refl; words = refl }
 
 pub stored-more : {o o₁ : List ℕ} (p i : ℕ) (s : List ℕ) → i < length s → Stored o p (take i s) o₁ → Stored o p (take (i + 1) s) (set o₁ (p + i) (getD s i 0))
-unfolding splice
 stored-more {o} {o₁} p i s h k =
     let n : length (take i s) ≡ i = length-take-le i s (omega arith) in
-    let one : Stored o₁ (p + i) (getD s i 0 ∷ []) (set o₁ (p + i) (getD s i 0)) = record { long = length-set o₁ (p + i) (getD s i 0); words = refl } in
-    stored-as (sym (take-more s i h)) (next (ap (λ (k : ℕ). p + k) n) k one)
+    stored-as (sym (take-more s i h)) (next (ap (λ (k : ℕ). p + k) n) k (stored-one o₁ (p + i) (getD s i 0)))
 
 pub stored-all : {o o₁ : List ℕ} {p i : ℕ} {s : List ℕ} → length s ≤ i → Stored o p (take i s) o₁ → Stored o p s o₁
 stored-all {i = i} {s = s} h k = stored-as (take-all i s h) k

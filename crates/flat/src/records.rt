@@ -5,26 +5,20 @@ use crate::layout;
 use crate::pic1;
 use crate::txt1;
 use crate::wnd1;
-use crate::words;
+use alignment::AlignmentPane;
+use pane::Pane;
+use picture::PicturePane;
 use strip::kind::Kind;
-use strip::record::Record;
+use text_box::TextBoxPane;
+use window::WindowPane;
 ghost use Prim.Native.Nat.{_≤_};
 ghost use lib.ListN.{length};
+ghost use mathlib.Core.List.{[], _∷_, _++_};
 ghost use mathlib.Core.Path.{_≡_};
+ghost use Rattle.strip_kinds.specs.Whole.{pan1, pic1, txt1, wnd1, ali1};
 ghost use Rattle.flat.specs.Words.{Stored};
-ghost use Rattle.flat.specs.Records.{kindNumber, kindOf, ownWords, recordWords};
-
-pub fn kind_number(kind: Kind) -> u64
-    ensures { λ r. ⌜ r ≡ kindNumber kind ⌝ }
-{
-    match kind {
-        Kind::Pan1 => 0,
-        Kind::Pic1 => 1,
-        Kind::Txt1 => 2,
-        Kind::Wnd1 => 3,
-        Kind::Ali1 => 4,
-    }
-}
+ghost use Rattle.flat.specs.Base.{baseWords};
+ghost use Rattle.flat.specs.Records.{kindOf, recordWords};
 
 // An unknown number reads as the last.
 pub fn kind_of(n: u64) -> Kind
@@ -45,29 +39,51 @@ pub fn kind_of(n: u64) -> Kind
     Kind::Ali1
 }
 
-// What the kind has beyond the base.
-fn put_own(out: &mut [u64], r: Record)
+// ---- stored: the kind, the base and the kind's own words
+
+fn put_front(out: &mut [u64], kind: u64, base: Pane)
     requires { ⌜ 116 ≤ length (now out) ⌝ }
-    ensures { λ _. ⌜ Stored (now (out .entry)) 62 (ownWords (r .kind) r) (now (out .exit)) ⌝ }
+    ensures { λ _. ⌜ Stored (now (out .entry)) 0 ((kind ∷ []) ++ baseWords base) (now (out .exit)) × (length (baseWords base) ≡ 61) ⌝ }
 {
-    let kind = r.kind;
-    match kind {
-        Kind::Pan1 => {}
-        Kind::Pic1 => pic1::put_picture(out, r.picture),
-        Kind::Txt1 => txt1::put_text_box(out, r.text_box),
-        Kind::Wnd1 => wnd1::put_window(out, r.window),
-        Kind::Ali1 => ali1::put_alignment(out, r.alignment),
-    }
+    out[layout::KIND] = kind;
+    base::put_base(out, base);
 }
 
-// The kind, the base and the kind's own words.
-pub fn put_record(out: &mut [u64], r: Record)
+pub fn put_pan1(out: &mut [u64], base: Pane)
     requires { ⌜ 116 ≤ length (now out) ⌝ }
-    ensures { λ _. ⌜ Stored (now (out .entry)) 0 (recordWords r) (now (out .exit)) ⌝ }
+    ensures { λ _. ⌜ Stored (now (out .entry)) 0 (recordWords (pan1 base)) (now (out .exit)) ⌝ }
 {
-    let kind = r.kind;
-    let number = [kind_number(kind)];
-    words::store(out, layout::KIND, &number);
-    base::put_base(out, r.base);
-    put_own(out, r);
+    put_front(out, 0, base);
+}
+
+pub fn put_pic1(out: &mut [u64], base: Pane, x: PicturePane)
+    requires { ⌜ 116 ≤ length (now out) ⌝ }
+    ensures { λ _. ⌜ Stored (now (out .entry)) 0 (recordWords (pic1 base x)) (now (out .exit)) ⌝ }
+{
+    put_front(out, 1, base);
+    pic1::put_picture(out, x);
+}
+
+pub fn put_txt1(out: &mut [u64], base: Pane, x: TextBoxPane)
+    requires { ⌜ 116 ≤ length (now out) ⌝ }
+    ensures { λ _. ⌜ Stored (now (out .entry)) 0 (recordWords (txt1 base x)) (now (out .exit)) ⌝ }
+{
+    put_front(out, 2, base);
+    txt1::put_text_box(out, x);
+}
+
+pub fn put_wnd1(out: &mut [u64], base: Pane, x: WindowPane)
+    requires { ⌜ 116 ≤ length (now out) ⌝ }
+    ensures { λ _. ⌜ Stored (now (out .entry)) 0 (recordWords (wnd1 base x)) (now (out .exit)) ⌝ }
+{
+    put_front(out, 3, base);
+    wnd1::put_window(out, x);
+}
+
+pub fn put_ali1(out: &mut [u64], base: Pane, x: AlignmentPane)
+    requires { ⌜ 116 ≤ length (now out) ⌝ }
+    ensures { λ _. ⌜ Stored (now (out .entry)) 0 (recordWords (ali1 base x)) (now (out .exit)) ⌝ }
+{
+    put_front(out, 4, base);
+    ali1::put_alignment(out, x);
 }

@@ -5,19 +5,15 @@ use Rattle.core.specs.declared.cursor.ByteOrder.{ByteOrder}
 use Rattle.core.specs.declared.cursor.Place.{Place}
 use Rattle.pane.specs.Body.{paneRead}
 use Rattle.pane.specs.declared.body.PaneParsed.{PaneParsed}
-use Rattle.picture.specs.Picture.{blankPicture}
 use Rattle.picture.specs.Body.{pictureRead, quadsRead}
 use Rattle.picture.specs.declared.body.PictureParsed.{PictureParsed}
-use Rattle.text_box_read.specs.TextBox.{blankTextBox}
 use Rattle.text_box.specs.Body.{textBoxRead, unitsAfter, linesAfter}
 use Rattle.text_box.specs.declared.body.TextBoxParsed.{TextBoxParsed}
-use Rattle.window_read.specs.Window.{blankWindow}
 use Rattle.window.specs.Body.{windowRead, readQuads, readFrames}
 use Rattle.window.specs.declared.body.WindowParsed.{WindowParsed}
-use Rattle.alignment.specs.Alignment.{blankAlignment}
 use Rattle.alignment.specs.Body.{alignmentRead}
 use Rattle.alignment.specs.declared.body.AlignmentParsed.{AlignmentParsed}
-use Rattle.strip_kinds.specs.Whole.{Lists, lists}
+use Rattle.strip_kinds.specs.Whole.{Lists, lists, pan1, pic1, txt1, wnd1, ali1}
 use Rattle.strip_kinds.specs.declared.kind.Kind.{Kind}
 use Rattle.strip_kinds.specs.declared.kind.Kind.the-variants.{Pan1, Pic1, Txt1, Wnd1, Ali1}
 use Rattle.strip_kinds.specs.declared.body.BodyRead.{BodyRead}
@@ -26,69 +22,19 @@ use Rattle.strip_kinds.specs.declared.body.BodyRead.{BodyRead}
 unfoldable pub bodyRead : ByteOrder → Kind → List ℕ → Place → ℕ → BodyRead
 bodyRead order Pan1 s p body =
     let r : PaneParsed = paneRead order s p body in
-    record {
-      answer = r .answer;
-      «record» = record {
-        kind = Pan1;
-        base = r .pane;
-        picture = blankPicture;
-        «text_box» = blankTextBox;
-        window = blankWindow;
-        alignment = blankAlignment;
-      };
-    }
+    record { answer = r .answer; «record» = pan1 (r .pane) }
 bodyRead order Pic1 s p body =
     let r : PictureParsed = pictureRead order s p body in
-    record {
-      answer = r .answer;
-      «record» = record {
-        kind = Pic1;
-        base = r .base;
-        picture = r .picture;
-        «text_box» = blankTextBox;
-        window = blankWindow;
-        alignment = blankAlignment;
-      };
-    }
+    record { answer = r .answer; «record» = pic1 (r .base) (r .picture) }
 bodyRead order Txt1 s p body =
     let r : TextBoxParsed = textBoxRead order s p body in
-    record {
-      answer = r .answer;
-      «record» = record {
-        kind = Txt1;
-        base = r .base;
-        picture = blankPicture;
-        «text_box» = r .«text_box»;
-        window = blankWindow;
-        alignment = blankAlignment;
-      };
-    }
+    record { answer = r .answer; «record» = txt1 (r .base) (r .«text_box») }
 bodyRead order Wnd1 s p body =
     let r : WindowParsed = windowRead order s p body in
-    record {
-      answer = r .answer;
-      «record» = record {
-        kind = Wnd1;
-        base = r .base;
-        picture = blankPicture;
-        «text_box» = blankTextBox;
-        window = r .window;
-        alignment = blankAlignment;
-      };
-    }
+    record { answer = r .answer; «record» = wnd1 (r .base) (r .window) }
 bodyRead order Ali1 s p body =
     let r : AlignmentParsed = alignmentRead order s p body in
-    record {
-      answer = r .answer;
-      «record» = record {
-        kind = Ali1;
-        base = r .base;
-        picture = blankPicture;
-        «text_box» = blankTextBox;
-        window = blankWindow;
-        alignment = r .alignment;
-      };
-    }
+    record { answer = r .answer; «record» = ali1 (r .base) (r .alignment) }
 
 -- the lists after it: the numbers read over the front of those that the kind takes, where nothing was refused
 unfoldable pub bodyLists : ByteOrder → Kind → List ℕ → Place → ℕ → Lists → Lists

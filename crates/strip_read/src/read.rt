@@ -38,7 +38,7 @@ pub struct Header {
 }
 
 // 1, 2 and 3
-fn read_start(
+pub fn read_start(
     length: usize,
     place: usize,
     quads: usize,
@@ -56,7 +56,7 @@ fn read_start(
 }
 
 // Letters and size, and check 8.
-fn take_header(order: ByteOrder, data: &[u8], place: usize) -> Header
+pub fn take_header(order: ByteOrder, data: &[u8], place: usize) -> Header
     requires { ⌜ (place ≤ length (now «data»)) × (length (now «data») ≤ 16777216) ⌝ }
     ensures { λ r. ⌜ r ≡ headerTaken order (now («data» .entry)) place ⌝ }
 {

@@ -5,7 +5,7 @@ use Rattle.exports.proofs.bidlomeqa_read_body.Tie as tie
 use Rattle.exports.proofs.bidlomeqa_read_body.Reads as reads
 use Rattle.exports.proofs.bidlomeqa_read_body.Lts as lts
 use Rattle.exports.proofs.answers.give.Reads as give-reads
-use Rattle.exports.proofs.calls.read_body.Reads as read-body-reads
+use Rattle.exports_read.proofs.reads.read_body.Reads as read-body-reads
 
 returns : tie.Need-returns
 returns c = read-short _ _ _ _ (c .if1 .taken)

@@ -5,7 +5,7 @@ use Rattle.exports.proofs.bidlomeqa_read_section.Tie as tie
 use Rattle.exports.proofs.bidlomeqa_read_section.Reads as reads
 use Rattle.exports.proofs.bidlomeqa_read_section.Lts as lts
 use Rattle.exports.proofs.answers.give.Reads as give-reads
-use Rattle.exports.proofs.calls.read_section.Reads as read-section-reads
+use Rattle.exports_read.proofs.reads.read_section.Reads as read-section-reads
 
 returns : tie.Need-returns
 returns c = read-short _ _ _ _ (c .if1 .taken)

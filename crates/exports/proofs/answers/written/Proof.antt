@@ -3,7 +3,7 @@ use Rattle.exports.proofs.answers.written.Statement.{statement}
 use Rattle.exports.proofs.answers.written.Tie as tie
 use Rattle.exports.proofs.answers.written.Reads as reads
 use Rattle.exports.proofs.answers.written.Lts as lts
-use Rattle.exports.proofs.answers.refused.Reads as refused-reads
+use Rattle.exports_read.proofs.answers.refused.Reads as refused-reads
 
 enum-known-w : tie.Need-enum-known-w
 enum-known-w c = search needs

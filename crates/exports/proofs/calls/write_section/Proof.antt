@@ -4,8 +4,8 @@ use Rattle.exports.proofs.calls.write_section.Statement.{statement}
 use Rattle.exports.proofs.calls.write_section.Tie as tie
 use Rattle.exports.proofs.calls.write_section.Reads as reads
 use Rattle.exports.proofs.calls.write_section.Lts as lts
-use Rattle.exports.proofs.answers.bad_word.Reads as bad-word-reads
-use Rattle.exports.proofs.answers.short_record.Reads as short-record-reads
+use Rattle.exports_read.proofs.answers.bad_word.Reads as bad-word-reads
+use Rattle.exports_read.proofs.answers.short_record.Reads as short-record-reads
 use Rattle.exports.proofs.answers.written.Reads as written-reads
 use Rattle.exports.proofs.calls.record_checked.Reads as record-checked-reads
 use Rattle.exports.proofs.sections.write.Reads as write-reads

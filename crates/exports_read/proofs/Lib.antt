@@ -1,0 +1,2 @@
+mod Reading
+pub mod Handed

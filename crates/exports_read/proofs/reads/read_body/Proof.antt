@@ -1,0 +1,64 @@
+use mathlib.Core.Path.{refl}
+use Rattle.exports_read.proofs.Reading.{body-short, body-bad, body-read}
+use borrow.Author.Needs.{needs}
+use Rattle.exports_read.proofs.reads.read_body.Statement.{statement}
+use Rattle.exports_read.proofs.reads.read_body.Tie as tie
+use Rattle.exports_read.proofs.reads.read_body.Reads as reads
+use Rattle.exports_read.proofs.reads.read_body.Lts as lts
+use Rattle.exports_read.proofs.answers.bad_word.Reads as bad-word-reads
+use Rattle.exports_read.proofs.answers.short_record.Reads as short-record-reads
+use Rattle.exports_read.proofs.bodies.parse_kind.Reads as parse-kind-reads
+use Rattle.flat.proofs.records.kind_of.Reads as kind-of-reads
+
+short-record-requires : tie.Need-short-record-requires
+short-record-requires c κs = search needs
+
+returns : tie.Need-returns
+returns c = body-short _ _ _ _ _ _ (c .before .if1 .taken) (rw (c .short-record .ensures))
+
+bad-word-requires : tie.Need-bad-word-requires
+bad-word-requires c κs = search needs
+
+returns-2 : tie.Need-returns-2
+returns-2 c = body-bad _ _ _ _ _ _ (c .before .before .if1 .left) (c .before .if2 .taken) (rw (c .bad-word .ensures))
+
+kind-of-requires : tie.Need-kind-of-requires
+kind-of-requires c κs = search needs
+
+parse-kind-requires : tie.Need-parse-kind-requires
+parse-kind-requires c κs = search needs
+
+same-length : tie.Need-same-length
+same-length c = search needs
+
+same-length-2 : tie.Need-same-length-2
+same-length-2 c = search needs
+
+same-length-3 : tie.Need-same-length-3
+same-length-3 c = search needs
+
+same-length-4 : tie.Need-same-length-4
+same-length-4 c = search needs
+
+same-length-5 : tie.Need-same-length-5
+same-length-5 c = search needs
+
+returns-3 : tie.Need-returns-3
+returns-3 c = body-read _ _ _ _ _ _ _ (c .before .before .before .before .before .before .before .before .before .before .before .before .before .before .before .before .before .before .if1 .left) (c .before .before .before .before .before .before .before .before .before .before .before .before .before .before .before .before .before .if2 .left) (c .before .before .before .before .before .before .before .before .before .before .before .before .before .before .before .before .kind-of .ensures) (c .before .before .before .before .before .before .before .before .before .before .parse-kind .ensures)
+
+pub read-body-spec : {M : Type 1} → statement M
+read-body-spec =
+    tie.close
+    (tie.spec
+    short-record-requires
+    returns
+    bad-word-requires
+    returns-2
+    kind-of-requires
+    parse-kind-requires
+    same-length
+    same-length-2
+    same-length-3
+    same-length-4
+    same-length-5
+    returns-3)

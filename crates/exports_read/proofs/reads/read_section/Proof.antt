@@ -1,0 +1,92 @@
+use mathlib.Core.Path.{refl, sym, _∙_}
+use Rattle.strip_kinds.specs.Whole.{lists}
+use Rattle.strip_read.proofs.Cleared.{read-started}
+use Rattle.strip_read.proofs.Steps.{read-refused, read-end, read-on}
+use Rattle.exports_read.proofs.Reading.{refused-so, ended-so, delivered-on, section-short, section-read}
+use borrow.Author.Needs.{needs}
+use Rattle.exports_read.proofs.reads.read_section.Statement.{statement}
+use Rattle.exports_read.proofs.reads.read_section.Tie as tie
+use Rattle.exports_read.proofs.reads.read_section.Reads as reads
+use Rattle.exports_read.proofs.reads.read_section.Lts as lts
+use Rattle.exports_read.proofs.answers.refused.Reads as refused-reads
+use Rattle.exports_read.proofs.answers.section.Reads as section-reads
+use Rattle.exports_read.proofs.answers.short_record.Reads as short-record-reads
+use Rattle.exports_read.proofs.reads.read_at.Reads as read-at-reads
+use Rattle.strip_read.proofs.read.read_start.Reads as read-start-reads
+
+short-record-requires : tie.Need-short-record-requires
+short-record-requires c κs = search needs
+
+returns : tie.Need-returns
+returns c = section-short _ _ _ _ _ (c .before .if1 .taken) (rw (c .short-record .ensures))
+
+read-start-requires : tie.Need-read-start-requires
+read-start-requires c κs = search needs
+
+enum-known-p : tie.Need-enum-known-p
+enum-known-p c = search needs
+
+refused-requires : tie.Need-refused-requires
+refused-requires c κs = search needs
+
+enum-told : tie.Need-enum-told
+enum-told c = search needs
+
+section-requires : tie.Need-section-requires
+section-requires c κs = search needs
+
+read-at-requires : tie.Need-read-at-requires
+read-at-requires c κs =
+    let (a, f) = read-started _ _ (lists _ _ _ _) _ (sym (c .before .before .before .before .before .before .before .before .read-start .ensures) ∙ c .before .before .before .before .before .before .enum-told .given .1) in
+    (a .within, a .most, f, c .before .before .before .before .before .before .before .before .before .if1 .left)
+
+returns-2 : tie.Need-returns-2
+returns-2 c =
+    let x = read-refused _ _ _ (lists _ _ _ _) _ (c .before .before .before .before .read-start .ensures) _ (c .before .before .p .given .1) in
+    section-read _ _ _ _ _ (c .before .before .before .before .before .if1 .left) (delivered-on _ _ _ _ _ _ (x .0) (x .1) (refused-so _ _ _ _ (c .refused .ensures)))
+
+returns-3 : tie.Need-returns-3
+returns-3 c =
+    let x = read-end _ _ _ (lists _ _ _ _) _ (c .before .before .before .before .read-start .ensures) _ (c .before .before .enum-told .given .1) (c .before .if2 .taken) in
+    section-read _ _ _ _ _ (c .before .before .before .before .before .if1 .left) (delivered-on _ _ _ _ _ _ (x .0) (x .1) (ended-so _ _ _ (c .section .ensures)))
+
+same-length : tie.Need-same-length
+same-length c = search needs
+
+same-length-2 : tie.Need-same-length-2
+same-length-2 c = search needs
+
+same-length-3 : tie.Need-same-length-3
+same-length-3 c = search needs
+
+same-length-4 : tie.Need-same-length-4
+same-length-4 c = search needs
+
+same-length-5 : tie.Need-same-length-5
+same-length-5 c = search needs
+
+returns-4 : tie.Need-returns-4
+returns-4 c =
+    let x = read-on _ _ _ (lists _ _ _ _) _ (c .before .before .before .before .before .before .before .before .before .before .before .before .before .before .before .before .before .before .before .read-start .ensures) _ (c .before .before .before .before .before .before .before .before .before .before .before .before .before .before .before .before .before .enum-told .given .1) (c .before .before .before .before .before .before .before .before .before .before .before .before .before .before .before .before .if2 .left) in
+    section-read _ _ _ _ _ (c .before .before .before .before .before .before .before .before .before .before .before .before .before .before .before .before .before .before .before .before .if1 .left) (delivered-on _ _ _ _ _ _ (x .0) (x .1) (c .before .before .before .before .before .before .before .before .before .before .read-at .ensures))
+
+pub read-section-spec : {M : Type 1} → statement M
+read-section-spec =
+    tie.close
+    (tie.spec
+    short-record-requires
+    returns
+    read-start-requires
+    enum-known-p
+    refused-requires
+    enum-told
+    section-requires
+    read-at-requires
+    returns-2
+    returns-3
+    same-length
+    same-length-2
+    same-length-3
+    same-length-4
+    same-length-5
+    returns-4)

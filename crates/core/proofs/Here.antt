@@ -1,4 +1,4 @@
--- Reads where the bytes are there, at an offset k of a cursor: what stands there, and the cursor after it.
+-- Reads where the bytes are there: what stands there, and the cursor after it.
 use mathlib.Core.Path.{_≡_, ap, _∙_}
 use Prim.Native.Nat.{ℕ, _+_, _-_, _*_, _≤_, _<_}
 use native.Mathlib.Omega.{arith}
@@ -36,19 +36,25 @@ pub string-here : (w : ℕ) (s : List ℕ) (c : Cursor) → 0 < w → c .pos + w
 unfolding stringTaken
 string-here w s c n h = rw (lt-ltb (c .pos) (length s) (omega arith), length-part w s (c .pos) h)
 
+-- a byte is the same in every order
+pub byte-here : (order : ByteOrder) (s : List ℕ) (c : Cursor) → c .pos + 1 ≤ length s
+    → _≡_ {A = Taken ℕ} (numberTaken order 1 s (At c)) (record { value = getD s (c .pos) 0; then = At (advanced c 1) })
+byte-here order s c h = number-here order 1 s c h ∙ rw (one order s (c .pos) (omega arith))
+
+-- ---- the same at an offset k of a cursor
+
 module _ (s : List ℕ) (c : Cursor) (k : ℕ) where
-  -- a byte is the same in every order
+  pub number-there : (order : ByteOrder) (w : ℕ) → c .pos + k + w ≤ length s
+      → _≡_ {A = Taken ℕ} (numberTaken order w s (At (advanced c k))) (record { value = numberAt order w s (c .pos + k); then = At (advanced c (k + w)) })
+  number-there order w h =
+      let e : advanced c k .pos + w ≤ length s = rw pos-advanced h in
+      number-here order w s (advanced c k) e ∙ rw (advanced-more, pos-advanced c k)
+
   pub byte-there : (order : ByteOrder) → c .pos + k + 1 ≤ length s
       → _≡_ {A = Taken ℕ} (numberTaken order 1 s (At (advanced c k))) (record { value = getD s (c .pos + k) 0; then = At (advanced c (k + 1)) })
   byte-there order h =
       let e : advanced c k .pos + 1 ≤ length s = rw pos-advanced h in
-      number-here order 1 s (advanced c k) e ∙ rw (advanced-more, pos-advanced c k, one order s (c .pos + k) (omega arith))
-
-  pub numbers-there : (order : ByteOrder) (w n : ℕ) → c .pos + k + w * n ≤ length s
-      → _≡_ {A = Taken (List ℕ)} (numbersTaken order w n s (At (advanced c k))) (record { value = numbersAt order w n s (c .pos + k); then = At (advanced c (k + w * n)) })
-  numbers-there order w n h =
-      let e : advanced c k .pos + w * n ≤ length s = rw pos-advanced h in
-      numbers-here order w s n (advanced c k) e ∙ rw (advanced-more, pos-advanced c k)
+      byte-here order s (advanced c k) e ∙ rw (advanced-more, pos-advanced c k)
 
   pub string24-there : c .pos + k + 24 ≤ length s
       → _≡_ {A = String24Taken} (string24Taken s (At (advanced c k))) (record { value = string24Of (upToNul (part 24 s (c .pos + k))); then = At (advanced c (k + 24)) })

@@ -1,23 +1,19 @@
 -- A pane that a write lets through is read back, anywhere in a buffer.
-use mathlib.Core.Path.{_≡_, refl, sym, ap, _∙_}
-use Prim.Native.Nat.{ℕ, _+_, _^_, _≤_, _<_}
+use mathlib.Core.Path.{_≡_}
+use Prim.Native.Nat.{ℕ, _+_, _≤_}
 use native.Mathlib.Nat.{add-zero}
 use native.Mathlib.Omega.{arith}
-use mathlib.Core.Bool.{Bool, true, false}
-use mathlib.Core.List.{List, [], _∷_, _++_}
+use mathlib.Core.List.{List}
 use lib.ListN.{length, take, length-append, length-take}
-use Rattle.core.specs.Bytes.{bytesOf, fixed}
-use Rattle.core.specs.Taken.{advanced, stopIf, numberTaken, string24Of, string8Of}
+use Rattle.core.specs.Taken.{advanced, stopIf, string24Of, string8Of}
 use Rattle.core.specs.declared.cursor.ByteOrder.{ByteOrder}
 use Rattle.core.specs.declared.cursor.Cursor.{Cursor}
-use Rattle.core.specs.declared.cursor.Place.{Place}
 use Rattle.core.specs.declared.cursor.Place.the-variants.{At}
 use Rattle.core.proofs.Numbers.{length-bytes}
 use Rattle.core.proofs.Cursors.{advanced-zero}
 use Rattle.core.proofs.Back.{Holds, cut, number-at, string24-at, string8-at, string24-text, string8-text, length-fixed}
 use Rattle.flags.specs.Fields.{paneFlagsNumber, positionNumber, flagExNumber}
 use Rattle.flags.proofs.Fields.{pane-flags-back, pane-flags-fit, position-back, position-fit, flag-ex-back, flag-ex-fit}
-use Rattle.ui2d.specs.Parts.{encodeVector2, encodeVector3}
 use Rattle.ui2d.proofs.Parts.{length-vector2, length-vector3, vector2-at, vector3-at}
 use Rattle.pane.specs.Pane.{text24, text8, paneTaken, encodeHead, encodeTransform, encodePane, Sound}
 use Rattle.pane.specs.Checks.{nameIll, textsChecked}

@@ -1,14 +1,14 @@
 -- What the checks of a write tell, and what lets a pane that was read pass.
-use mathlib.Core.Path.{_≡_, refl, sym, ap, _∙_}
+use mathlib.Core.Path.{_≡_, refl}
 use Prim.Native.Nat.{ℕ, _+_, _^_, _≤_, _<_}
 use native.Mathlib.Omega.{arith}
 use mathlib.Core.Bool.{Bool, true, false, not, _||_}
 use mathlib.Core.List.{List}
-use lib.ListN.{length, take}
+use lib.ListN.{take}
 use lib.Dec.{ltb}
 use borrow.Author.Tests.{ltb-false, not-false}
-use Rattle.core.specs.Taken.{hasZero, stopIf}
-use Rattle.core.specs.Checks.{bodyStart, endChecked}
+use Rattle.core.specs.Taken.{hasZero}
+use Rattle.core.specs.Checks.{bodyStart}
 use Rattle.core.specs.declared.cursor.Cursor.{Cursor}
 use Rattle.core.specs.declared.cursor.Place.{Place}
 use Rattle.core.specs.declared.cursor.Place.the-variants.{At}

@@ -1,7 +1,6 @@
 -- A pane whose 76 bytes are there: its fields at their offsets.
 use mathlib.Core.Path.{_≡_, sym, ap, _∙_}
 use Prim.Native.Nat.{ℕ, _+_, _≤_}
-use native.Mathlib.Nat.{add-zero}
 use native.Mathlib.Omega.{arith}
 use mathlib.Core.List.{List}
 use lib.ListN.{length, getD}
@@ -13,8 +12,8 @@ use Rattle.core.specs.declared.cursor.Place.{Place}
 use Rattle.core.specs.declared.cursor.Place.the-variants.{At}
 use Rattle.core.specs.declared.text.FixedString24.{FixedString24}
 use Rattle.core.specs.declared.text.FixedString8.{FixedString8}
-use Rattle.core.proofs.Cursors.{pos-start, advanced-zero}
-use Rattle.core.proofs.Here.{byte-there, string24-there, string8-there}
+use Rattle.core.proofs.Cursors.{pos-start}
+use Rattle.core.proofs.Here.{byte-here, byte-there, string24-there, string8-there}
 use Rattle.flags.specs.Fields.{paneFlagsOf, positionOf, flagExOf}
 use Rattle.flags.specs.declared.position.BflytPosition.{BflytPosition}
 use Rattle.flags.specs.declared.pane.PaneFlags.{PaneFlags}
@@ -26,10 +25,10 @@ use Rattle.pane.specs.Pane.{paneTaken}
 use Rattle.pane.specs.declared.Pane.{Pane}
 use Rattle.pane.specs.declared.PaneTaken.{PaneTaken}
 
--- the pane at a place, whose first byte is at `first`
-abbrev paneFrom : ByteOrder → List ℕ → ℕ → ℕ → Pane
-paneFrom order s first at = record {
-  «pane_flags» = paneFlagsOf (getD s first 0);
+-- the pane at a place
+abbrev paneThere : ByteOrder → List ℕ → ℕ → Pane
+paneThere order s at = record {
+  «pane_flags» = paneFlagsOf (getD s at 0);
   position = positionOf (getD s (at + 1) 0);
   alpha = getD s (at + 2) 0;
   «flag_ex» = flagExOf (getD s (at + 3) 0);
@@ -42,12 +41,13 @@ paneFrom order s first at = record {
 }
 
 module _ (order : ByteOrder) (s : List ℕ) where
-  pane-from : (c : Cursor) → c .pos + 76 ≤ length s
-      → _≡_ {A = PaneTaken} (paneTaken order s (At (advanced c 0))) (record { pane = paneFrom order s (c .pos + 0) (c .pos); then = At (advanced c 76) })
+  -- THE PANE AND THE PLACE AFTER IT
+  pane-here : (c : Cursor) → c .pos + 76 ≤ length s
+      → _≡_ {A = PaneTaken} (paneTaken order s (At c)) (record { pane = paneThere order s (c .pos); then = At (advanced c 76) })
   unfolding paneTaken
-  pane-from c h =
+  pane-here c h =
       rw (
-        byte-there s c 0 order (omega arith),
+        byte-here order s c (omega arith),
         byte-there s c 1 order (omega arith),
         byte-there s c 2 order (omega arith),
         byte-there s c 3 order (omega arith),
@@ -59,15 +59,10 @@ module _ (order : ByteOrder) (s : List ℕ) where
         vector2-there order s c 68 (omega arith),
       )
 
-  -- THE PANE AND THE PLACE AFTER IT
-  pane-here : (c : Cursor) → c .pos + 76 ≤ length s
-      → _≡_ {A = PaneTaken} (paneTaken order s (At c)) (record { pane = paneFrom order s (c .pos) (c .pos); then = At (advanced c 76) })
-  pane-here c h = rw (advanced-zero c, add-zero (c .pos)) at (pane-from c h)
-
-  pane-start : (at : ℕ) → at + 76 ≤ length s → paneTaken order s (At (start at)) .pane ≡ paneFrom order s at at
+  pane-start : (at : ℕ) → at + 76 ≤ length s → paneTaken order s (At (start at)) .pane ≡ paneThere order s at
   pane-start at h =
       let k : start at .pos + 76 ≤ length s = rw pos-start h in
-      ap (λ t. t .pane) (pane-here (start at) k) ∙ ap (λ (n : ℕ). paneFrom order s n n) (pos-start at)
+      ap (λ t. t .pane) (pane-here (start at) k) ∙ ap (paneThere order s) (pos-start at)
 
   -- as the code makes them
   pub pane-made : (at : ℕ) → at + 76 ≤ length s

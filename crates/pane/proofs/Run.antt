@@ -1,12 +1,12 @@
 -- The ten steps of a pane's read, as the code takes them; a read of a run that was refused.
-use mathlib.Core.Path.{_≡_, refl, sym, ap, _∙_}
+use mathlib.Core.Path.{_≡_, refl}
 use mathlib.Core.List.{List}
 use Prim.Native.Nat.{ℕ}
 use Rattle.core.specs.Taken.{u8Taken, numberTaken, stringTaken, string24Taken, string8Taken}
 use Rattle.core.specs.declared.error.Refusal.{Refusal}
 use Rattle.core.specs.declared.cursor.ByteOrder.{ByteOrder}
 use Rattle.core.specs.declared.cursor.Place.{Place}
-use Rattle.core.specs.declared.cursor.Place.the-variants.{At, Refused}
+use Rattle.core.specs.declared.cursor.Place.the-variants.{Refused}
 use Rattle.core.specs.declared.cursor.U8Taken.{U8Taken}
 use Rattle.core.specs.declared.text.String24Taken.{String24Taken}
 use Rattle.core.specs.declared.text.String8Taken.{String8Taken}

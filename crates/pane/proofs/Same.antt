@@ -1,7 +1,5 @@
 -- Equality of base panes: what is read back is equal to what was written, equal panes have equal bytes, and two that are equal to a third are equal.
-use mathlib.Core.Path.{_≡_, refl, sym, ap, _∙_}
-use mathlib.Core.List.{List}
-use Prim.Native.Nat.{ℕ}
+use mathlib.Core.Path.{_≡_, refl, sym, _∙_}
 use Rattle.core.specs.declared.cursor.ByteOrder.{ByteOrder}
 use Rattle.core.proofs.Back.{string24-text, string8-text}
 use Rattle.pane.specs.Pane.{text24, text8, encodeHead, encodeTransform, encodePane}

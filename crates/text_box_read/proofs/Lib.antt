@@ -1,4 +1,5 @@
 pub mod Run
+pub mod Here
 pub mod Came
 pub mod Surrogates
 pub mod Pairs

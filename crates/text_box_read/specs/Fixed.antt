@@ -21,6 +21,7 @@ use Rattle.text_box_read.specs.declared.FontMeasure.the-variants as meas
 use Rattle.text_box_read.specs.declared.fixed.HeadTaken.{HeadTaken}
 use Rattle.text_box_read.specs.declared.fixed.FontTaken.{FontTaken}
 use Rattle.text_box_read.specs.declared.fixed.ShadowTaken.{ShadowTaken}
+use Rattle.text_box_read.specs.declared.fixed.FixedTaken.{FixedTaken}
 
 -- u16 buffer size, text_length, material, font; origin, alignment; u16 flags; tilt
 unfoldable pub headTaken : ByteOrder → List ℕ → Place → HeadTaken
@@ -86,6 +87,13 @@ shadowTaken order s p =
       «per_character_offset» = each .value;
       then = each .then;
     }
+
+-- the three, one after the other
+unfoldable pub fixedTaken : ByteOrder → List ℕ → Place → FixedTaken
+fixedTaken order s p =
+    let head : HeadTaken = headTaken order s p in
+    let font : FontTaken = fontTaken order s (head .then) in
+    record { head = head; font = font; shadow = shadowTaken order s (font .then) }
 
 -- which of the two the font measure is, for flag bit 12, and its two floats
 abbrev pub measureKind : FontMeasure → FontMeasureKind

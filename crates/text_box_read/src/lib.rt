@@ -145,21 +145,20 @@ pub fn measure_text_box(order: ByteOrder, data: &[u8], p: Place, body: usize) ->
     requires { ⌜ (8 ≤ body) × (body < 2 ^ 32) ⌝ }
     ensures { λ r. ⌜ r ≡ textBoxTaken order (now («data» .entry)) p body ⌝ }
 {
-    let head = fixed::take_head(order, data, p);
-    let p1 = head.then;
-    let font = fixed::take_font(order, data, p1);
-    let p2 = font.then;
-    let shadow = fixed::take_shadow(order, data, p2);
-    let p3 = shadow.then;
+    let taken = fixed::take_fixed(order, data, p);
+    let head = taken.head;
+    let font = taken.font;
+    let shadow = taken.shadow;
+    let p1 = shadow.then;
     let line = head.word.flags.is_line_transform;
     let each = head.word.flags.is_per_character_transform;
-    let text_taken = parts::take_text(order, data, p3, body, font.text_offset, head.text_length);
-    let p4 = text_taken.then;
-    let label_taken = parts::take_label(data, p4, body, font.label_offset);
-    let p5 = label_taken.then;
-    let lines_taken = parts::take_lines(order, data, p5, body, line, shadow.line_offset);
-    let p6 = lines_taken.then;
-    let then = parts::per_character_checked(p6, each, shadow.per_character_offset);
+    let text_taken = parts::take_text(order, data, p1, body, font.text_offset, head.text_length);
+    let p2 = text_taken.then;
+    let label_taken = parts::take_label(data, p2, body, font.label_offset);
+    let p3 = label_taken.then;
+    let lines_taken = parts::take_lines(order, data, p3, body, line, shadow.line_offset);
+    let p4 = lines_taken.then;
+    let then = parts::per_character_checked(p4, each, shadow.per_character_offset);
     let text = text_taken.text;
     let label = label_taken.label;
     let line_table = lines_taken.line_table;

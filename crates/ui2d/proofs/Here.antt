@@ -1,7 +1,7 @@
 -- Vectors, colours and quads where their bytes are there: what stands at a place, and the cursor after it.
 use mathlib.Core.Path.{_≡_, sym, ap, _∙_}
 use Prim.Native.Nat.{ℕ, _+_, _≤_}
-use native.Mathlib.Nat.{add-zero, add-assoc}
+use native.Mathlib.Nat.{add-assoc}
 use native.Mathlib.Omega.{arith}
 use mathlib.Core.List.{List, [], _∷_}
 use lib.ListN.{length, getD}
@@ -12,9 +12,10 @@ use Rattle.core.specs.declared.cursor.ByteOrder.{ByteOrder}
 use Rattle.core.specs.declared.cursor.Cursor.{Cursor}
 use Rattle.core.specs.declared.cursor.Place.{Place}
 use Rattle.core.specs.declared.cursor.Place.the-variants.{At}
-use Rattle.core.proofs.Cursors.{pos-start, advanced-zero}
+use Rattle.core.proofs.Cursors.{pos-start, pos-advanced, advanced-more}
 use Rattle.core.proofs.Numbers.{one}
-use Rattle.core.proofs.Here.{numbers-there, numbers-start}
+use Rattle.core.proofs.Lists.{numbers-here}
+use Rattle.core.proofs.Here.{numbers-start}
 use Rattle.ui2d.specs.Floats.{float}
 use Rattle.ui2d.specs.Parts.{vector2Taken, vector3Taken, colorTaken, colorsTaken}
 use Rattle.ui2d.specs.Quads.{vectorAt, quadAt}
@@ -94,23 +95,43 @@ module _ (order : ByteOrder) (s : List ℕ) (at : ℕ) where
       )
       (simp add-assoc)
 
--- ---- in a run, at an offset k of a cursor
+-- ---- in a run
 
+module _ (order : ByteOrder) (s : List ℕ) where
+  pub vector2-here : (c : Cursor) → c .pos + 8 ≤ length s
+      → _≡_ {A = Vector2Taken} (vector2Taken order s (At c)) (record { value = vector2There order s (c .pos); then = At (advanced c 8) })
+  vector2-here c h =
+      vector2-run order s (At c) ∙ ap asVector2 (numbers-here order 4 s 2 c h) ∙ rw (vector2-numbers order s (c .pos) h)
+
+  pub vector3-here : (c : Cursor) → c .pos + 12 ≤ length s
+      → _≡_ {A = Vector3Taken} (vector3Taken order s (At c)) (record { value = vector3There order s (c .pos); then = At (advanced c 12) })
+  vector3-here c h =
+      vector3-run order s (At c) ∙ ap asVector3 (numbers-here order 4 s 3 c h) ∙ rw (vector3-numbers order s (c .pos) h)
+
+  pub color-here : (c : Cursor) → c .pos + 4 ≤ length s
+      → _≡_ {A = ColorTaken} (colorTaken order s (At c)) (record { value = colorThere order s (c .pos); then = At (advanced c 4) })
+  color-here c h =
+      color-run order s (At c) ∙ ap asColor (numbers-here order 1 s 4 c h) ∙ rw (color-numbers order s (c .pos) h)
+
+-- at an offset k of a cursor
 module _ (order : ByteOrder) (s : List ℕ) (c : Cursor) (k : ℕ) where
   pub vector2-there : c .pos + k + 8 ≤ length s
       → _≡_ {A = Vector2Taken} (vector2Taken order s (At (advanced c k))) (record { value = vector2There order s (c .pos + k); then = At (advanced c (k + 8)) })
   vector2-there h =
-      vector2-run order s (At (advanced c k)) ∙ ap asVector2 (numbers-there s c k order 4 2 h) ∙ rw (vector2-numbers order s (c .pos + k) h)
+      let e : advanced c k .pos + 8 ≤ length s = rw pos-advanced h in
+      vector2-here order s (advanced c k) e ∙ rw (advanced-more, pos-advanced c k)
 
   pub vector3-there : c .pos + k + 12 ≤ length s
       → _≡_ {A = Vector3Taken} (vector3Taken order s (At (advanced c k))) (record { value = vector3There order s (c .pos + k); then = At (advanced c (k + 12)) })
   vector3-there h =
-      vector3-run order s (At (advanced c k)) ∙ ap asVector3 (numbers-there s c k order 4 3 h) ∙ rw (vector3-numbers order s (c .pos + k) h)
+      let e : advanced c k .pos + 12 ≤ length s = rw pos-advanced h in
+      vector3-here order s (advanced c k) e ∙ rw (advanced-more, pos-advanced c k)
 
   pub color-there : c .pos + k + 4 ≤ length s
       → _≡_ {A = ColorTaken} (colorTaken order s (At (advanced c k))) (record { value = colorThere order s (c .pos + k); then = At (advanced c (k + 4)) })
   color-there h =
-      color-run order s (At (advanced c k)) ∙ ap asColor (numbers-there s c k order 1 4 h) ∙ rw (color-numbers order s (c .pos + k) h)
+      let e : advanced c k .pos + 4 ≤ length s = rw pos-advanced h in
+      color-here order s (advanced c k) e ∙ rw (advanced-more, pos-advanced c k)
 
 -- ---- four colours
 
@@ -118,23 +139,16 @@ abbrev colorsThere : ByteOrder → List ℕ → ℕ → List Color4u8
 colorsThere order s at = colorThere order s at ∷ colorThere order s (at + 4) ∷ colorThere order s (at + 8) ∷ colorThere order s (at + 12) ∷ []
 
 module _ (order : ByteOrder) (s : List ℕ) where
-  colors-from : (c : Cursor) → c .pos + 16 ≤ length s
-      → _≡_ {A = ColorsTaken} (colorsTaken order s (At (advanced c 0))) (record {
-        value = colorThere order s (c .pos + 0) ∷ colorThere order s (c .pos + 4) ∷ colorThere order s (c .pos + 8) ∷ colorThere order s (c .pos + 12) ∷ [];
-        then = At (advanced c 16);
-      })
+  colors-here : (c : Cursor) → c .pos + 16 ≤ length s
+      → _≡_ {A = ColorsTaken} (colorsTaken order s (At c)) (record { value = colorsThere order s (c .pos); then = At (advanced c 16) })
   unfolding colorsTaken
-  colors-from c h =
+  colors-here c h =
       rw (
-        color-there order s c 0 (omega arith),
+        color-here order s c (omega arith),
         color-there order s c 4 (omega arith),
         color-there order s c 8 (omega arith),
         color-there order s c 12 (omega arith),
       )
-
-  colors-here : (c : Cursor) → c .pos + 16 ≤ length s
-      → _≡_ {A = ColorsTaken} (colorsTaken order s (At c)) (record { value = colorsThere order s (c .pos); then = At (advanced c 16) })
-  colors-here c h = rw (advanced-zero c, add-zero (c .pos)) at (colors-from c h)
 
   pub colors-made : (at : ℕ) → at + 16 ≤ length s → colorsThere order s at ≡ colorsTaken order s (At (start at)) .value
   colors-made at h =

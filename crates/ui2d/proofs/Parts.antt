@@ -14,7 +14,8 @@ use Rattle.core.specs.declared.cursor.Place.{Place}
 use Rattle.core.specs.declared.cursor.Place.the-variants.{At}
 use Rattle.core.proofs.Numbers.{length-bytes}
 use Rattle.core.proofs.Back.{Holds, holds-fits, length-all, cut, number-at}
-use Rattle.core.proofs.Here.{numbers-there}
+use Rattle.core.proofs.Cursors.{pos-advanced}
+use Rattle.core.proofs.Lists.{numbers-here}
 use Rattle.ui2d.specs.Floats.{float}
 use Rattle.ui2d.specs.Parts.{vector2Taken, vector3Taken, colorTaken, encodeVector2, encodeVector3, encodeColor, encodeQuad}
 use Rattle.ui2d.specs.Quads.{vectorBits, quadBits, vectorAt, quadAt}
@@ -139,4 +140,6 @@ module _ {s : List ℕ} (c : Cursor) (order : ByteOrder) where
   quad-back k v t a =
       let fits : c .pos + k + 32 ≤ length s = omega (arith, length-quad order v, holds-fits (encodeQuad order v) a) in
       let b = subst (Holds s (c .pos + k)) (quad-bytes order v) a in
-      ap (λ t. quadAt (t .value) 0) (sym (numbers-there s c k order 4 8 fits) ∙ numbers-at 4 k (quadBits v) t b)
+      let e : advanced c k .pos + 32 ≤ length s = rw pos-advanced fits in
+      let n = numbers-here order 4 s 8 (advanced c k) e in
+      rw (← pos-advanced c k) (ap (λ t. quadAt (t .value) 0) (sym n ∙ numbers-at 4 k (quadBits v) t b))

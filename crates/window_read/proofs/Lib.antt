@@ -1,3 +1,4 @@
 pub mod Filling
 pub mod Run
 pub mod Signed
+pub mod Here

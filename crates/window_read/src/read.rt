@@ -4,14 +4,18 @@ use crate::WindowFrame;
 use crate::WindowPane;
 use core::cursor;
 use core::cursor::ByteOrder;
+use core::cursor::Cursor;
 use core::cursor::Place;
 use core::list;
+use core::signed;
 use flags::window::TextureFlip;
 use flags::window::WindowFlags;
 ghost use mathlib.Core.Path.{_≡_};
 ghost use Prim.Native.Nat.{_-_, _*_, _^_, _≤_, _<_};
 ghost use lib.ListN.{length};
-ghost use Rattle.core.specs.Taken.{over};
+ghost use Rattle.core.specs.Bytes.{Room};
+ghost use Rattle.core.specs.Taken.{start, over};
+ghost use Rattle.core.specs.declared.cursor.Place.the-variants.{At};
 ghost use Rattle.core.specs.Lists.{numbersTaken};
 ghost use Rattle.window_read.specs.Window.{sidesTaken, headTaken, contentTaken, frameTaken, framesTaken, windowTaken, windowOf, windowQuads, windowFrames, Ahead};
 
@@ -84,8 +88,8 @@ fn take_sides(order: ByteOrder, data: &[u8], p: Place) -> SidesTaken
     }
 }
 
-// The reserved u16 is read, and kept nowhere.
-fn take_head(order: ByteOrder, data: &[u8], p: Place) -> HeadTaken
+// Field by field. The reserved u16 is read, and kept nowhere.
+fn take_fields(order: ByteOrder, data: &[u8], p: Place) -> HeadTaken
     ensures { λ r. ⌜ r ≡ headTaken order (now («data» .entry)) p ⌝ }
 {
     let inflation = take_sides(order, data, p);
@@ -113,6 +117,66 @@ fn take_head(order: ByteOrder, data: &[u8], p: Place) -> HeadTaken
         table_offset: table.value,
     };
     HeadTaken { value, then }
+}
+
+fn sides_at(order: ByteOrder, data: &[u8], at: usize) -> Sides
+    requires { ⌜ Room (now «data») at 8 ⌝ }
+    ensures { λ r. ⌜ r ≡ sidesTaken order (now («data» .entry)) (At (start at)) .value ⌝ }
+{
+    let left = cursor::u16_at(order, data, at);
+    let right = cursor::u16_at(order, data, at + 2);
+    let top = cursor::u16_at(order, data, at + 4);
+    let bottom = cursor::u16_at(order, data, at + 6);
+    Sides {
+        left: signed::signed_of(left),
+        right: signed::signed_of(right),
+        top: signed::signed_of(top),
+        bottom: signed::signed_of(bottom),
+    }
+}
+
+// The head of the 28 bytes at a cursor.
+fn head_at(order: ByteOrder, data: &[u8], c: Cursor) -> HeadTaken
+    requires { ⌜ Room (now «data») (c .pos) 28 ⌝ }
+    ensures { λ r. ⌜ r ≡ headTaken order (now («data» .entry)) (At c) ⌝ }
+{
+    let at = c.pos;
+    let frame_count = data[at + 16];
+    let flag = data[at + 17];
+    let inflation = sides_at(order, data, at);
+    let frame_size = sides_at(order, data, at + 8);
+    let content_offset = cursor::u32_at(order, data, at + 20);
+    let table_offset = cursor::u32_at(order, data, at + 24);
+    let value = WindowHead {
+        inflation,
+        frame_size,
+        frame_count,
+        flag: WindowFlags::decode(flag),
+        content_offset,
+        table_offset,
+    };
+    HeadTaken {
+        value,
+        then: Place::At(c.advanced(28)),
+    }
+}
+
+// One test where all 28 bytes are there.
+fn take_head(order: ByteOrder, data: &[u8], p: Place) -> HeadTaken
+    ensures { λ r. ⌜ r ≡ headTaken order (now («data» .entry)) p ⌝ }
+{
+    match p {
+        Place::At(c) => {
+            let at = c.pos;
+            if at < data.len() {
+                if 28 <= data.len() - at {
+                    return head_at(order, data, c);
+                }
+            }
+            take_fields(order, data, Place::At(c))
+        }
+        Place::Refused(why) => take_fields(order, data, Place::Refused(why)),
+    }
 }
 
 // The reserved byte is read, and kept nowhere.

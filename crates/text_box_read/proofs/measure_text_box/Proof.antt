@@ -1,16 +1,11 @@
+use Rattle.text_box_read.specs.Fixed.{fixedTaken}
 use Rattle.text_box_read.specs.TextBox.{textBoxTaken}
 use borrow.Author.Needs.{needs}
 use Rattle.text_box_read.proofs.measure_text_box.Statement.{statement}
 use Rattle.text_box_read.proofs.measure_text_box.Tie as tie
 
-take-head-requires : tie.Need-take-head-requires
-take-head-requires c κs = search needs
-
-take-font-requires : tie.Need-take-font-requires
-take-font-requires c κs = search needs
-
-take-shadow-requires : tie.Need-take-shadow-requires
-take-shadow-requires c κs = search needs
+take-fixed-requires : tie.Need-take-fixed-requires
+take-fixed-requires c κs = search needs
 
 take-text-requires : tie.Need-take-text-requires
 take-text-requires c κs = search needs
@@ -28,16 +23,14 @@ assemble-requires : tie.Need-assemble-requires
 assemble-requires c κs = search needs
 
 returns : tie.Need-returns
-unfolding textBoxTaken
-returns c = rw (c .assemble .ensures, c .before .per-character-checked .ensures, c .before .before .take-lines .ensures, c .before .before .before .take-label .ensures, c .before .before .before .before .take-text .ensures, c .before .before .before .before .before .take-shadow .ensures, c .before .before .before .before .before .before .take-font .ensures, c .before .before .before .before .before .before .before .take-head .ensures)
+unfolding textBoxTaken fixedTaken
+returns c = rw (c .assemble .ensures, c .before .per-character-checked .ensures, c .before .before .take-lines .ensures, c .before .before .before .take-label .ensures, c .before .before .before .before .take-text .ensures, c .before .before .before .before .before .before .before .before .take-fixed .ensures)
 
 pub measure-text-box-spec : {M : Type 1} → statement M
 measure-text-box-spec =
     tie.close
     (tie.spec
-    take-head-requires
-    take-font-requires
-    take-shadow-requires
+    take-fixed-requires
     take-text-requires
     take-label-requires
     take-lines-requires

@@ -1,46 +1,48 @@
-use Rattle.window_read.specs.Window.{headTaken}
 use borrow.Author.Needs.{needs}
 use Rattle.window_read.proofs.read.take_head.Statement.{statement}
 use Rattle.window_read.proofs.read.take_head.Tie as tie
+use Rattle.window_read.proofs.read.take_head.Reads as reads
+use Rattle.window_read.proofs.read.take_head.Lts as lts
+use Rattle.window_read.proofs.read.head_at.Reads as head-at-reads
+use Rattle.window_read.proofs.read.take_fields.Reads as take-fields-reads
 
-take-sides-requires : tie.Need-take-sides-requires
-take-sides-requires c κs = search needs
+enum-known-p : tie.Need-enum-known-p
+enum-known-p c = search needs
 
-take-sides-requires-2 : tie.Need-take-sides-requires-2
-take-sides-requires-2 c κs = search needs
+sub-if2 : tie.Need-sub-if2
+sub-if2 c = search needs
 
-take-u8-requires : tie.Need-take-u8-requires
-take-u8-requires c κs = search needs
-
-take-u8-requires-2 : tie.Need-take-u8-requires-2
-take-u8-requires-2 c κs = search needs
-
-take-u16-requires : tie.Need-take-u16-requires
-take-u16-requires c κs = search needs
-
-take-u32-requires : tie.Need-take-u32-requires
-take-u32-requires c κs = search needs
-
-take-u32-requires-2 : tie.Need-take-u32-requires-2
-take-u32-requires-2 c κs = search needs
-
-decode-requires : tie.Need-decode-requires
-decode-requires c κs = search needs
+head-at-requires : tie.Need-head-at-requires
+head-at-requires c κs = search needs
 
 returns : tie.Need-returns
-unfolding headTaken
-returns c = rw (c .decode .ensures, c .before .before .before .take-u322 .ensures, c .before .before .before .before .take-u32 .ensures, c .before .before .before .before .before .take-u16 .ensures, c .before .before .before .before .before .before .take-u82 .ensures, c .before .before .before .before .before .before .before .take-u8 .ensures, c .before .before .before .before .before .before .before .before .take-sides2 .ensures, c .before .before .before .before .before .before .before .before .before .take-sides .ensures)
+returns c = rw (c .before .before .before .before .p .given .1) (c .head-at .ensures)
+
+take-fields-requires : tie.Need-take-fields-requires
+take-fields-requires c κs = search needs
+
+enum-known-p-2 : tie.Need-enum-known-p-2
+enum-known-p-2 c = search needs
+
+take-fields-requires-2 : tie.Need-take-fields-requires-2
+take-fields-requires-2 c κs = search needs
+
+returns-2 : tie.Need-returns-2
+returns-2 c = rw (c .before .before .before .p .given .1) (c .take-fields .ensures)
+
+returns-3 : tie.Need-returns-3
+returns-3 c = rw (c .before .before .p2 .given .1) (c .take-fields2 .ensures)
 
 pub take-head-spec : {M : Type 1} → statement M
 take-head-spec =
     tie.close
     (tie.spec
-    take-sides-requires
-    take-sides-requires-2
-    take-u8-requires
-    take-u8-requires-2
-    take-u16-requires
-    take-u32-requires
-    take-u32-requires-2
-    decode-requires
-    returns)
+    enum-known-p
+    sub-if2
+    head-at-requires
+    returns
+    take-fields-requires
+    enum-known-p-2
+    take-fields-requires-2
+    returns-2
+    returns-3)

@@ -9,7 +9,7 @@ use borrow.Author.Tests.{lt-ltb, le-ltb, le-leb, lt-leb, eq-eqb, ne-eqb}
 use Rattle.core.specs.Bytes.{splice}
 use Rattle.core.specs.declared.cursor.ByteOrder.the-variants.{Little}
 use Rattle.core.specs.declared.checks.Written.{Written}
-use Rattle.text_box_read.specs.Caption.{within}
+use Rattle.text_box_caption.specs.Caption.{within}
 use Rattle.text_box_read.specs.declared.Label.{Label}
 use Rattle.text_box_read.specs.declared.Label.the-variants as label
 use Rattle.strip_kinds.specs.Whole.{Lists, lists, Whole, whole}

@@ -6,7 +6,7 @@ use mathlib.Core.List.{List, []}
 use lib.ListN.{length, take, drop}
 use lib.Seq.{take-length}
 use lib.Dec.{eqb}
-use Rattle.text_box_read.specs.Caption.{within, labelOf, captionOf}
+use Rattle.text_box_caption.specs.Caption.{within, labelOf, captionOf}
 use Rattle.text_box_read.specs.declared.Label.{Label}
 use Rattle.text_box_read.specs.declared.Label.the-variants as label
 use Rattle.exports_read.specs.declared.answers.Answer.{Answer}

@@ -10,7 +10,7 @@ use Rattle.core.specs.declared.checks.Written.{Written}
 use Rattle.pane.specs.Body.{paneWritten, paneOutput}
 use Rattle.picture.specs.Body.{pictureWritten, pictureOutput}
 use Rattle.text_box.specs.Body.{textBoxWritten, textBoxOutput}
-use Rattle.text_box_read.specs.Caption.{within}
+use Rattle.text_box_caption.specs.Caption.{within}
 use Rattle.text_box_read.specs.declared.Label.{Label}
 use Rattle.text_box_read.specs.declared.Label.the-variants as label
 use Rattle.window.specs.Body.{windowWritten, windowOutput}

@@ -26,7 +26,7 @@ use Rattle.picture.specs.declared.PicturePane.{PicturePane}
 use Rattle.picture.proofs.Back as picture-laws
 use Rattle.text_box_read.specs.TextBox.{blankTextBox}
 use Rattle.text_box_read.specs.Parts.{unitsOf, linesOf, textBoxUnits, textBoxLines}
-use Rattle.text_box_read.specs.Caption.{labelOf}
+use Rattle.text_box_caption.specs.Caption.{labelOf}
 use Rattle.text_box_write.specs.Written.{encodeTextBox}
 use Rattle.text_box.specs.Body as text-box
 use Rattle.text_box.specs.Same as text-box-same

@@ -5,7 +5,7 @@ use mathlib.Core.List.{List, []}
 use lib.ListN.{take}
 use Rattle.pane.specs.Same.{SamePane}
 use Rattle.picture.specs.Same.{SamePicture}
-use Rattle.text_box_read.specs.Caption.{labelOf}
+use Rattle.text_box_caption.specs.Caption.{labelOf}
 use Rattle.text_box.specs.Same.{SameTextBox}
 use Rattle.text_box.specs.Same as text-box
 use Rattle.text_box_read.specs.declared.Text.{Text}

@@ -24,11 +24,11 @@ use Rattle.text_box_read.specs.declared.TextBoxTaken.{TextBoxTaken}
 use Rattle.text_box_read.specs.Parts.{placeOf, Part, absent, present, textPart, labelPart, linePart, column, unitsOf, linesOf, textBoxUnits, textBoxLines}
 use Rattle.text_box_read.specs.TextBox.{textBoxTaken}
 use Rattle.text_box_write.specs.Written.{textEnd, labelEnd, encodeText, encodeLabel, encodeLines, encodeTextBox}
-use Rattle.text_box_read.specs.Caption.{labelOf}
+use Rattle.text_box_caption.specs.Caption.{labelOf}
 use Rattle.text_box.specs.Checks.{labelChecked}
 use Rattle.text_box.specs.Same.{SameTextBox}
 use Rattle.text_box_read.specs.Typed.{TypedTextBox}
-use Rattle.text_box_read.proofs.Captions.{inside}
+use Rattle.text_box_caption.proofs.Captions.{inside}
 use Rattle.text_box_write.proofs.Columns.{length-column, lines-back}
 use Rattle.text_box.proofs.Cleared.{GoodText, GoodLabel, GoodLines, GoodBit, GoodTextBox}
 use Rattle.text_box.proofs.Back.{Below, Bounded, Set, fits, fits-column, numbers-stand, readText, textPlace, readLabel, readTable, tablePlace}

@@ -18,7 +18,7 @@ use Rattle.text_box_read.specs.declared.LineTable.{LineTable}
 use Rattle.text_box_read.specs.declared.LineTable.the-variants as lines
 use Rattle.text_box_read.specs.declared.TextBoxPane.{TextBoxPane}
 use Rattle.text_box_read.specs.Parts.{Part, absent, present, textPart, linePart}
-use Rattle.text_box_read.specs.Caption.{labelOf}
+use Rattle.text_box_caption.specs.Caption.{labelOf}
 
 -- 7: the label that was read is ill-formed UTF-8
 unfoldable pub labelChecked : Place → List ℕ → Label → Place

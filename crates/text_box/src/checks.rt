@@ -21,7 +21,7 @@ pub fn label_checked(p: Place, data: &[u8], label: Label) -> Place
     match label {
         Label::Absent => p,
         Label::At { place, length: _ } => {
-            let bytes = text_box_read::caption::label(data, label);
+            let bytes = text_box_caption::caption::label(data, label);
             let formed = unicode::utf8::well_formed(bytes);
             cursor::stop_if(p, !formed, Refusal::IllFormedUtf8 { place, which: 3 })
         }

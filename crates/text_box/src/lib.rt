@@ -5,6 +5,7 @@ pub mod fixed;
 
 pub use body::parse;
 pub use body::write;
+pub use text_box_caption::caption;
 pub use text_box_read::FontMeasure;
 pub use text_box_read::Label;
 pub use text_box_read::LineTable;
@@ -12,7 +13,6 @@ pub use text_box_read::Text;
 pub use text_box_read::TextBoxPane;
 pub use text_box_read::TextBoxTaken;
 pub use text_box_read::blank_text_box;
-pub use text_box_read::caption;
 pub use text_box_read::measure_text_box;
 pub use text_box_read::parts;
 pub use text_box_read::typed_text_box;

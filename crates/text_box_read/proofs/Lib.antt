@@ -3,4 +3,3 @@ pub mod Here
 pub mod Came
 pub mod Surrogates
 pub mod Pairs
-pub mod Captions

@@ -1,5 +1,4 @@
 // What a text box has beyond the base, and how it is read: 84 bytes, then its text, its label and its line table.
-pub mod caption;
 pub mod fixed;
 pub mod parts;
 pub mod units;

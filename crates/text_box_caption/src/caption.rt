@@ -1,7 +1,7 @@
 // A label as a part of the strip, and the caption for the screen.
-use crate::Label;
+use text_box_read::Label;
 ghost use mathlib.Core.Path.{_≡_};
-ghost use Rattle.text_box_read.specs.Caption.{byteAt, labelOf, labelPlace, captionOf, captionStart};
+ghost use Rattle.text_box_caption.specs.Caption.{byteAt, labelOf, labelPlace, captionOf, captionStart};
 
 // The label, not a copy; the empty part at 0 where it is absent, or where its place and length pass the strip.
 pub fn label<'a>(data: &'a [u8], l: Label) -> &'a [u8]

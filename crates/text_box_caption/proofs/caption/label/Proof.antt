@@ -1,8 +1,8 @@
-use Rattle.text_box_read.proofs.Captions.{inside, beyond, outside, label-got, label-none, label-at, none-at, absent-at}
+use Rattle.text_box_caption.proofs.Captions.{inside, beyond, outside, label-got, label-none, label-at, none-at, absent-at}
 use mathlib.Core.Logic.{⊎-elim}
 use borrow.Author.Needs.{needs}
-use Rattle.text_box_read.proofs.caption.label.Statement.{statement}
-use Rattle.text_box_read.proofs.caption.label.Tie as tie
+use Rattle.text_box_caption.proofs.caption.label.Statement.{statement}
+use Rattle.text_box_caption.proofs.caption.label.Tie as tie
 
 enum-told : tie.Need-enum-told
 enum-told c = search needs

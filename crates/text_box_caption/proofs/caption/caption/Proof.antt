@@ -1,7 +1,7 @@
-use Rattle.text_box_read.proofs.Captions.{inside, beyond, outside, caption-got, caption-lent, caption-at, lent-at}
+use Rattle.text_box_caption.proofs.Captions.{inside, beyond, outside, caption-got, caption-lent, caption-at, lent-at}
 use borrow.Author.Needs.{needs}
-use Rattle.text_box_read.proofs.caption.caption.Statement.{statement}
-use Rattle.text_box_read.proofs.caption.caption.Tie as tie
+use Rattle.text_box_caption.proofs.caption.caption.Statement.{statement}
+use Rattle.text_box_caption.proofs.caption.caption.Tie as tie
 
 enum-told : tie.Need-enum-told
 enum-told c = search needs

@@ -7,7 +7,7 @@ use lib.ListN.{length, take, drop, getD, length-drop}
 use lib.Seq.{length-take-le}
 use lib.Dec.{lit≤}
 use borrow.Author.Tests.{lt-ltb}
-use Rattle.core.specs.Bytes.{part}
+use Rattle.core.specs.Bytes.{part, numberAt}
 use Rattle.core.specs.Taken.{Taken, start, advanced, numberTaken, upToNul, stringTaken, string24Of, string8Of, string24Taken, string8Taken}
 use Rattle.core.specs.Lists.{numbersTaken, numbersAt}
 use Rattle.core.specs.declared.cursor.ByteOrder.{ByteOrder}

@@ -1,23 +1,19 @@
 -- What a call answers, branch by branch.
-use mathlib.Core.Path.{_≡_, refl, sym, ap, _∙_}
+use mathlib.Core.Path.{_≡_, sym, ap, _∙_}
 use Prim.Native.Nat.{ℕ, _-_, _≤_, _<_}
-use mathlib.Core.Bool.{cond, true, false}
+use mathlib.Core.Bool.{true, false}
 use mathlib.Core.List.{List}
 use lib.ListN.{length, getD}
-use lib.Dec.{ltb, leb, eqb}
-use borrow.Author.Tests.{lt-ltb, le-ltb, le-leb, lt-leb, eq-eqb, ne-eqb}
-use Rattle.core.specs.Bytes.{splice}
+use borrow.Author.Tests.{lt-ltb, le-ltb, le-leb, lt-leb}
 use Rattle.core.specs.declared.cursor.ByteOrder.the-variants.{Little}
 use Rattle.core.specs.declared.checks.Written.{Written}
 use Rattle.text_box_caption.specs.Caption.{within}
 use Rattle.text_box_read.specs.declared.Label.{Label}
 use Rattle.text_box_read.specs.declared.Label.the-variants as label
-use Rattle.strip_kinds.specs.Whole.{Lists, lists, Whole, whole}
+use Rattle.strip_kinds.specs.Whole.{Lists, lists}
 use Rattle.strip_write.specs.Write.{writeAnswer, writeOutput}
 use Rattle.strip_kinds.specs.declared.kind.Kind.{Kind}
-use Rattle.strip_kinds.specs.declared.record.Record.{Record}
-use Rattle.flat.specs.Words.{Stored}
-use Rattle.flat.specs.Records.{kindOf, recordWords, recordBy}
+use Rattle.flat.specs.Records.{kindOf, recordBy}
 use Rattle.flat.specs.Below.{wordsChecked}
 use Rattle.flat.specs.declared.bounds.Checked.{Checked}
 use Rattle.flat.specs.declared.bounds.Checked.the-variants.{Good, Bad}
@@ -25,7 +21,7 @@ use Rattle.exports_read.specs.Answers.{shortRecord, badWord}
 use Rattle.exports_read.specs.Outcomes.{ReadOutcome, readOutcome}
 use Rattle.exports_read.specs.declared.answers.Answer.{Answer}
 use Rattle.exports.specs.Answers.{writtenAnswer, partAnswer}
-use Rattle.exports.specs.Calls.{WriteOutcome, writeOutcome, ofRecord, unlessBad, wholeOf, sectionWritten, bodyAnswer, bodyOutput, bodyWritten, labelOfWords, labelPart, captionPart, labelOutcome, captionOutcome, Returned, returned, given, ReadSeen, readSeen, seenRead, WriteSeen, writeSeen, seenWrite, seenPart}
+use Rattle.exports.specs.Calls.{WriteOutcome, writeOutcome, ofRecord, sectionWritten, bodyAnswer, bodyOutput, bodyWritten, labelOfWords, labelPart, captionPart, labelOutcome, captionOutcome, returned, given, readSeen, seenRead, writeSeen, seenWrite, seenPart}
 
 -- ---- a call of a record
 

@@ -12,10 +12,9 @@ use Rattle.core.specs.declared.cursor.Place.{Place}
 use Rattle.core.specs.declared.cursor.Place.the-variants as Places
 use Rattle.core.specs.declared.checks.Parsed.{Parsed}
 use Rattle.core.specs.declared.checks.Parsed.the-variants as Parseds
-use Rattle.strip_kinds.specs.Kinds.{kindOf}
 use Rattle.strip_kinds.specs.Whole.{Lists, blankRecord}
 use Rattle.strip_kinds.specs.Body.{bodyRead}
-use Rattle.strip_read.specs.Read.{readStart, headerTaken, refusedWith, endedWith, passedWith, finished, readBody, byKind, orRefused, readAt, readSection}
+use Rattle.strip_read.specs.Read.{refusedWith, endedWith, passedWith, finished, readBody, byKind, orRefused, readAt, readSection}
 use Rattle.strip_kinds.specs.declared.kind.Kind.{Kind}
 use Rattle.strip_kinds.specs.declared.kind.Kind.the-variants.{Pan1, Pic1, Txt1, Wnd1, Ali1}
 use Rattle.strip_kinds.specs.declared.kind.KindFound.{KindFound}

@@ -1,4 +1,3 @@
-use mathlib.Core.Path.{refl}
 use Rattle.exports_read.proofs.Reading.{body-short, body-bad, body-read}
 use borrow.Author.Needs.{needs}
 use Rattle.exports_read.proofs.reads.read_body.Statement.{statement}

@@ -1,4 +1,4 @@
-use mathlib.Core.Path.{refl, sym, _∙_}
+use mathlib.Core.Path.{sym, _∙_}
 use Rattle.strip_kinds.specs.Whole.{lists}
 use Rattle.strip_read.proofs.Cleared.{read-started}
 use Rattle.strip_read.proofs.Steps.{read-refused, read-end, read-on}

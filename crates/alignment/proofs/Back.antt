@@ -14,13 +14,13 @@ use Rattle.core.specs.declared.cursor.Place.the-variants.{At}
 use Rattle.core.proofs.Numbers.{length-bytes}
 use Rattle.core.proofs.Cursors.{advanced-zero}
 use Rattle.core.proofs.Back.{Holds, cut, number-at}
-use Rattle.pane.specs.Pane.{Sound}
-use Rattle.pane.specs.declared.Pane.{Pane}
+use Rattle.pane_read.specs.Pane.{Sound}
+use Rattle.pane_read.specs.declared.Pane.{Pane}
 use Rattle.pane.proofs.Back.{length-pane}
-use Rattle.alignment.specs.Alignment.{byteBool, boolByte, alignmentTaken, encodeAlignment, TypedAlignment}
+use Rattle.alignment_fields.specs.Alignment.{byteBool, boolByte, alignmentTaken, encodeAlignment, TypedAlignment}
 use Rattle.alignment.specs.Body.{encodeBody}
-use Rattle.alignment.specs.declared.AlignmentPane.{AlignmentPane}
-use Rattle.alignment.specs.declared.AlignmentTaken.{AlignmentTaken}
+use Rattle.alignment_fields.specs.declared.AlignmentPane.{AlignmentPane}
+use Rattle.alignment_fields.specs.declared.AlignmentTaken.{AlignmentTaken}
 
 bool-back : (b : Bool) → byteBool (boolByte b) ≡ b
 bool-back true = refl

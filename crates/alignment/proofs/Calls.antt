@@ -4,21 +4,21 @@ use Prim.Native.Nat.{ℕ}
 use mathlib.Core.List.{List}
 use lib.ListN.{length}
 use Rattle.core.specs.Taken.{numberTaken}
-use Rattle.core.specs.Checks.{bodyStart, parsedOf, unlessRefused}
+use Rattle.core_checks.specs.Checks.{bodyStart, parsedOf, unlessRefused}
 use Rattle.core.specs.declared.error.Refusal.{Refusal}
 use Rattle.core.specs.declared.cursor.ByteOrder.{ByteOrder}
 use Rattle.core.specs.declared.cursor.Cursor.{Cursor}
 use Rattle.core.specs.declared.cursor.Place.{Place}
 use Rattle.core.specs.declared.cursor.Place.the-variants.{At, Refused}
-use Rattle.core.specs.declared.checks.Parsed.the-variants as Parseds
-use Rattle.pane.specs.Pane.{paneTaken}
-use Rattle.pane.specs.Checks.{textsChecked}
-use Rattle.pane.specs.declared.PaneTaken.{PaneTaken}
-use Rattle.pane.proofs.Run.{pane-stays}
+use Rattle.core_checks.specs.declared.checks.Parsed.the-variants as Parseds
+use Rattle.pane_read.specs.Pane.{paneTaken}
+use Rattle.pane_checks.specs.Checks.{textsChecked}
+use Rattle.pane_read.specs.declared.PaneTaken.{PaneTaken}
+use Rattle.pane_read.proofs.Run.{pane-stays}
 use Rattle.pane.proofs.Calls.{texts-stay}
-use Rattle.alignment.specs.Alignment.{alignmentTaken}
+use Rattle.alignment_fields.specs.Alignment.{alignmentTaken}
 use Rattle.alignment.specs.Body.{Blank, alignmentRead, alignmentParsed}
-use Rattle.alignment.specs.declared.AlignmentTaken.{AlignmentTaken}
+use Rattle.alignment_fields.specs.declared.AlignmentTaken.{AlignmentTaken}
 use Rattle.alignment.specs.declared.body.AlignmentParsed.{AlignmentParsed}
 
 -- a run that was refused stays so

@@ -3,8 +3,8 @@ use mathlib.Core.Path.{_≡_}
 use Prim.Native.Nat.{ℕ, _+_, _≤_}
 use Rattle.core.specs.declared.cursor.Cursor.{Cursor}
 use Rattle.core.specs.declared.cursor.Place.the-variants.{At}
-use Rattle.core.proofs.Checked.{BodyOk, body-started, end-cleared}
-use Rattle.pane.specs.declared.Pane.{Pane}
+use Rattle.core_checks.proofs.Checked.{BodyOk, body-started, end-cleared}
+use Rattle.pane_read.specs.declared.Pane.{Pane}
 use Rattle.pane.proofs.Cleared.{Good, base-cleared}
 use Rattle.alignment.specs.Body.{alignmentWriteChecked}
 

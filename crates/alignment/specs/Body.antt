@@ -4,19 +4,19 @@ use Prim.Native.Nat.{ℕ, _+_}
 use mathlib.Core.List.{List, _++_}
 use lib.ListN.{length}
 use Rattle.core.specs.Bytes.{splice}
-use Rattle.core.specs.Checks.{bodyStart, endChecked, parsedOf, unlessRefused, writtenOf}
+use Rattle.core_checks.specs.Checks.{bodyStart, endChecked, parsedOf, unlessRefused, writtenOf}
 use Rattle.core.specs.declared.cursor.ByteOrder.{ByteOrder}
 use Rattle.core.specs.declared.cursor.Place.{Place}
 use Rattle.core.specs.declared.error.Refusal.{Refusal}
-use Rattle.core.specs.declared.checks.Parsed.the-variants as Parseds
-use Rattle.core.specs.declared.checks.Written.{Written}
-use Rattle.pane.specs.Pane.{paneTaken, blankPane, encodePane}
-use Rattle.pane.specs.Checks.{textsChecked, namesChecked, reserveChecked}
-use Rattle.pane.specs.declared.Pane.{Pane}
-use Rattle.pane.specs.declared.PaneTaken.{PaneTaken}
-use Rattle.alignment.specs.Alignment.{alignmentTaken, blankAlignment, encodeAlignment}
-use Rattle.alignment.specs.declared.AlignmentPane.{AlignmentPane}
-use Rattle.alignment.specs.declared.AlignmentTaken.{AlignmentTaken}
+use Rattle.core_checks.specs.declared.checks.Parsed.the-variants as Parseds
+use Rattle.core_checks.specs.declared.checks.Written.{Written}
+use Rattle.pane_read.specs.Pane.{paneTaken, blankPane, encodePane}
+use Rattle.pane_checks.specs.Checks.{textsChecked, namesChecked, reserveChecked}
+use Rattle.pane_read.specs.declared.Pane.{Pane}
+use Rattle.pane_read.specs.declared.PaneTaken.{PaneTaken}
+use Rattle.alignment_fields.specs.Alignment.{alignmentTaken, blankAlignment, encodeAlignment}
+use Rattle.alignment_fields.specs.declared.AlignmentPane.{AlignmentPane}
+use Rattle.alignment_fields.specs.declared.AlignmentTaken.{AlignmentTaken}
 use Rattle.alignment.specs.declared.body.AlignmentParsed.{AlignmentParsed}
 
 -- what a refused read gives

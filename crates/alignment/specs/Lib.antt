@@ -1,2 +1,1 @@
-pub mod Alignment
 pub mod Body

@@ -1,20 +1,20 @@
 // The body calls of an alignment pane: any bytes are read or refused, any pane is written or refused.
-use crate::AlignmentPane;
-use core::checks;
-use core::checks::Parsed;
-use core::checks::Written;
+use alignment_fields::AlignmentPane;
 use core::cursor::ByteOrder;
 use core::cursor::Place;
 use core::error::Refusal;
-use pane::Pane;
-use pane::checks::names_checked;
-use pane::checks::reserve_checked;
-use pane::checks::texts_checked;
+use core_checks::checks;
+use core_checks::checks::Parsed;
+use core_checks::checks::Written;
+use pane_checks::checks::names_checked;
+use pane_checks::checks::reserve_checked;
+use pane_checks::checks::texts_checked;
+use pane_read::Pane;
 ghost use mathlib.Core.Path.{_≡_};
 ghost use Prim.Native.Nat.{_^_, _<_};
 ghost use lib.ListN.{length};
 ghost use Rattle.core.specs.Bytes.{Room, Put};
-ghost use Rattle.pane.specs.Pane.{Sound};
+ghost use Rattle.pane_read.specs.Pane.{Sound};
 ghost use Rattle.alignment.specs.Body.{Blank, encodeBody, alignmentRead, alignmentParsed, alignmentWriteChecked, alignmentWritten, alignmentOutput};
 
 // What a body read gives: its answer, and the pane, blank where it was refused.
@@ -29,8 +29,8 @@ fn refused(why: Refusal) -> AlignmentParsed
 {
     AlignmentParsed {
         answer: Parsed::Refused(why),
-        base: pane::blank_pane(),
-        alignment: crate::blank_alignment(),
+        base: pane_read::blank_pane(),
+        alignment: alignment_fields::blank_alignment(),
     }
 }
 
@@ -39,10 +39,10 @@ pub fn read(order: ByteOrder, data: &[u8], p: Place, place: usize) -> AlignmentP
     requires { ⌜ place < 2 ^ 32 ⌝ }
     ensures { λ r. ⌜ r ≡ alignmentRead order (now («data» .entry)) p place ⌝ }
 {
-    let taken = pane::take_pane(order, data, p);
+    let taken = pane_read::take_pane(order, data, p);
     let base = taken.pane;
     let p1 = taken.then;
-    let own = crate::take_alignment(order, data, p1);
+    let own = alignment_fields::take_alignment(order, data, p1);
     let alignment = own.alignment;
     let p2 = own.then;
     let then = texts_checked(p2, base, place);
@@ -86,7 +86,7 @@ pub fn put_body(order: ByteOrder, out: &mut [u8], p: usize, b: Pane, a: Alignmen
     ensures { λ r. ⌜ Put (now (out .entry)) p 88 (encodeBody order b a) r (now (out .exit)) ⌝ }
 {
     let q = pane::put_pane(order, out, p, b);
-    crate::put_alignment(order, out, q, a)
+    alignment_fields::put_alignment(order, out, q, a)
 }
 
 // The alignment pane at a place: checks 1, 2, 9, 10, 16. A refusal leaves the output as it was; an accepted write answers its end, and changes no byte but its own.

@@ -2,10 +2,7 @@ pub mod Numbers
 pub mod TwosComplement
 pub mod Cursors
 pub mod Runs
-pub mod Checked
 pub mod Strings
-pub mod Padding
-pub mod Puts
 pub mod Lists
 pub mod Back
 pub mod Here

@@ -2,4 +2,3 @@ pub mod Refusals
 pub mod Bytes
 pub mod Taken
 pub mod Lists
-pub mod Checks

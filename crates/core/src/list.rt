@@ -1,14 +1,13 @@
-// Runs of numbers of 2 or 4 bytes: measured first, filled into a lent list where nothing was refused, and written from one.
+// Runs of numbers of 2 or 4 bytes: measured first, and filled into a lent list where nothing was refused.
 use crate::cursor;
 use crate::cursor::ByteOrder;
 use crate::cursor::Place;
 use crate::error::Refusal;
-use crate::writer;
 ghost use mathlib.Core.Path.{_≡_};
 ghost use mathlib.Core.List.{_++_};
 ghost use Prim.Native.Nat.{_+_, _*_, _≤_};
 ghost use lib.ListN.{length, drop};
-ghost use Rattle.core.specs.Bytes.{bytesOfAll, Room, Put};
+ghost use Rattle.core.specs.Bytes.{Room};
 ghost use Rattle.core.specs.Lists.{numbersTaken, numbersAt};
 
 // ---- measured: where a run stands after n numbers
@@ -80,19 +79,4 @@ pub fn fill_u16s(order: ByteOrder, data: &[u8], at: usize, n: usize, out: &mut [
         out[i] = cursor::u16_at(order, data, at + 2 * i);
         i += 1;
     }
-}
-
-// ---- written
-
-pub fn put_u16s(order: ByteOrder, out: &mut [u8], p: usize, list: &[u16]) -> usize
-    requires { ⌜ Room (now out) p (2 * length (now list)) ⌝ }
-    ensures { λ r. ⌜ Put (now (out .entry)) p (2 * length (now (list .entry))) (bytesOfAll order 2 (now (list .entry))) r (now (out .exit)) ⌝ }
-{
-    let mut q = p;
-    let mut i = 0;
-    while i < list.len() {
-        q = writer::put_u16(order, out, q, list[i]);
-        i += 1;
-    }
-    q
 }

@@ -1,3 +1,2 @@
 mod Outcomes
 mod Writing
-pub mod Parts

@@ -4,24 +4,24 @@ use Prim.Native.Nat.{ℕ}
 use mathlib.Core.List.{List, []}
 use lib.ListN.{length}
 use Rattle.core.specs.declared.cursor.ByteOrder.the-variants.{Little}
-use Rattle.core.specs.declared.checks.Written.{Written}
+use Rattle.core_checks.specs.declared.checks.Written.{Written}
 use Rattle.pane.specs.Body.{paneWritten, paneOutput}
-use Rattle.pane.specs.declared.Pane.{Pane}
+use Rattle.pane_read.specs.declared.Pane.{Pane}
 use Rattle.picture.specs.Body.{pictureWritten, pictureOutput}
-use Rattle.picture.specs.declared.PicturePane.{PicturePane}
+use Rattle.picture_fields.specs.declared.PicturePane.{PicturePane}
 use Rattle.text_box.specs.Body.{textBoxWritten, textBoxOutput}
 use Rattle.text_box_read.specs.declared.TextBoxPane.{TextBoxPane}
 use Rattle.window.specs.Body.{windowWritten, windowOutput}
 use Rattle.window_read.specs.declared.WindowPane.{WindowPane}
 use Rattle.alignment.specs.Body.{alignmentWritten, alignmentOutput}
-use Rattle.alignment.specs.declared.AlignmentPane.{AlignmentPane}
-use Rattle.strip_kinds.specs.Whole.{Whole, whole, pan1, pic1, txt1, wnd1, ali1}
+use Rattle.alignment_fields.specs.declared.AlignmentPane.{AlignmentPane}
+use Rattle.strip_records.specs.Whole.{Whole, whole, pan1, pic1, txt1, wnd1, ali1}
 use Rattle.strip_write.specs.Write.{ownLengthChecked, ownNameChecked, ownChecked, encodeBody, section, writeChecked, writeAnswer, writeOutput}
-use Rattle.strip_kinds.specs.declared.kind.Kind.{Kind}
-use Rattle.strip_kinds.specs.declared.kind.Kind.the-variants.{Pan1, Pic1, Txt1, Wnd1, Ali1}
+use Rattle.strip_records.specs.declared.kind.Kind.{Kind}
+use Rattle.strip_records.specs.declared.kind.Kind.the-variants.{Pan1, Pic1, Txt1, Wnd1, Ali1}
 use Rattle.flat.specs.Base.{baseAt}
-use Rattle.flat.specs.Own.{pictureAt, textBoxAt, windowAt, alignmentAt}
-use Rattle.flat.specs.Records.{recordBy}
+use Rattle.flat_kinds.specs.Own.{pictureAt, textBoxAt, windowAt, alignmentAt}
+use Rattle.flat_records.specs.Records.{recordBy}
 use Rattle.exports.specs.Calls.{bodyAnswer, bodyOutput}
 
 module _ (o : List ℕ) (p : ℕ) (v : Written) (o′ : List ℕ) where

@@ -2,32 +2,24 @@
 use Prim.Native.Nat.{ℕ}
 use mathlib.Core.Bool.{cond}
 use mathlib.Core.List.{List}
-use lib.ListN.{length, getD}
-use lib.Dec.{ltb, eqb}
-use Rattle.core.specs.Bytes.{splice}
+use lib.ListN.{length}
+use lib.Dec.{ltb}
 use Rattle.core.specs.declared.cursor.ByteOrder.the-variants.{Little}
-use Rattle.core.specs.declared.checks.Written.{Written}
+use Rattle.core_checks.specs.declared.checks.Written.{Written}
 use Rattle.pane.specs.Body.{paneWritten, paneOutput}
 use Rattle.picture.specs.Body.{pictureWritten, pictureOutput}
 use Rattle.text_box.specs.Body.{textBoxWritten, textBoxOutput}
-use Rattle.text_box_caption.specs.Caption.{within}
-use Rattle.text_box_read.specs.declared.Label.{Label}
-use Rattle.text_box_read.specs.declared.Label.the-variants as label
 use Rattle.window.specs.Body.{windowWritten, windowOutput}
 use Rattle.alignment.specs.Body.{alignmentWritten, alignmentOutput}
-use Rattle.strip_kinds.specs.Whole.{Lists, Whole}
+use Rattle.strip_records.specs.Whole.{Lists, Whole}
 use Rattle.strip_write.specs.Write.{writeAnswer, writeOutput}
-use Rattle.strip_kinds.specs.declared.kind.Kind.{Kind}
-use Rattle.strip_kinds.specs.declared.kind.Kind.the-variants.{Pan1, Pic1, Txt1, Wnd1, Ali1}
-use Rattle.flat.specs.Own.{labelAt}
-use Rattle.flat.specs.Records.{recordOf}
-use Rattle.flat.specs.Below.{wordsChecked}
-use Rattle.exports_read.specs.Answers.{shortRecord, badWord}
+use Rattle.strip_records.specs.declared.kind.Kind.{Kind}
+use Rattle.strip_records.specs.declared.kind.Kind.the-variants.{Pan1, Pic1, Txt1, Wnd1, Ali1}
+use Rattle.flat_records.specs.Records.{recordOf}
+use Rattle.exports_answers.specs.Answers.{writtenAnswer, Returned, returned, given}
+use Rattle.exports_parts.specs.Parts.{ofRecord, labelOutcome, captionOutcome}
 use Rattle.exports_read.specs.Outcomes.{ReadOutcome, sectionOutcome, bodyOutcome}
-use Rattle.exports_read.specs.declared.answers.Answer.{Answer}
-use Rattle.exports.specs.Answers.{answerWords, writtenAnswer, partAnswer}
-use Rattle.flat.specs.declared.bounds.Checked.{Checked}
-use Rattle.flat.specs.declared.bounds.Checked.the-variants.{Good, Bad}
+use Rattle.exports_answers.specs.declared.answers.Answer.{Answer}
 
 -- ---- writes
 
@@ -38,14 +30,6 @@ pub record WriteOutcome : Type 0 where
 
 abbrev pub writeOutcome : Answer → List ℕ → WriteOutcome
 writeOutcome x o = record { answer = x; out = o }
-
--- SHORT_RECORD, then BAD_WORD, and then x
-abbrev pub unlessBad : {A : Type 0} → Checked → (Answer → A) → A → A
-unlessBad Good bad x = x
-unlessBad (Bad i) bad x = bad (badWord i)
-
-unfoldable pub ofRecord : {A : Type 0} → List ℕ → (Answer → A) → A → A
-ofRecord w bad x = cond (ltb (length w) 116) (bad shortRecord) (unlessBad (wordsChecked w) bad x)
 
 -- the record of the words with its lists and label
 abbrev pub wholeOf : List ℕ → Lists → List ℕ → Whole
@@ -76,39 +60,7 @@ bodyWritten w l label o body =
     ofRecord w (λ x. writeOutcome x o)
     (writeOutcome (writtenAnswer (bodyAnswer (recordOf w .kind) (wholeOf w l label) (length o) body)) (bodyOutput (recordOf w .kind) (wholeOf w l label) o body))
 
--- ---- the label and the caption
-
--- a record that is no txt1 has no label
-abbrev pub labelOfWords : List ℕ → Label
-labelOfWords w = cond (eqb (getD w 0 0) 2) (labelAt w) label.Absent
-
--- where `labelOf` finds it: the empty part at 0 where it is absent, or where its place and length pass the strip
-abbrev pub labelPart : List ℕ → Label → Answer
-labelPart s label.Absent = partAnswer 0 0 0
-labelPart s (label.At place long) = cond (within s place long) (partAnswer 0 place long) (partAnswer 0 0 0)
-
--- where `captionOf` finds it
-abbrev pub captionPart : List ℕ → Label → List ℕ → Answer
-captionPart s label.Absent lent = partAnswer 1 0 (length lent)
-captionPart s (label.At place long) lent = cond (within s place long) (partAnswer 0 place long) (partAnswer 1 0 (length lent))
-
-unfoldable pub labelOutcome : List ℕ → List ℕ → Answer
-labelOutcome s w = ofRecord w (λ x. x) (labelPart s (labelOfWords w))
-
-unfoldable pub captionOutcome : List ℕ → List ℕ → List ℕ → Answer
-captionOutcome s w lent = ofRecord w (λ x. x) (captionPart s (labelOfWords w) lent)
-
 -- ---- what the caller sees: the number returned and the answer's words beside the rest. SHORT_ANSWER comes before all
-
-pub record Returned : Type 0 where
-  pub code : ℕ
-  pub words : List ℕ
-
-abbrev pub returned : ℕ → List ℕ → Returned
-returned code a = record { code = code; words = a }
-
-unfoldable pub given : Answer → List ℕ → Returned
-given x a = returned (x .code) (splice a 0 (answerWords x))
 
 pub record ReadSeen : Type 0 where
   pub back : Returned

@@ -1,17 +1,17 @@
 // The body writes by kind.
-use core::checks::Written;
 use core::cursor::ByteOrder;
-use flat::ali1;
+use core_checks::checks::Written;
 use flat::base;
-use flat::pic1;
-use flat::txt1;
-use flat::wnd1;
-use strip::kind::Kind;
+use flat_kinds::ali1;
+use flat_kinds::pic1;
+use flat_kinds::txt1;
+use flat_kinds::wnd1;
+use strip_records::kind::Kind;
 ghost use Prim.Native.Nat.{_≤_};
 ghost use mathlib.Core.Path.{_≡_};
 ghost use lib.ListN.{length};
-ghost use Rattle.strip_kinds.specs.Whole.{whole};
-ghost use Rattle.flat.specs.Records.{recordBy};
+ghost use Rattle.strip_records.specs.Whole.{whole};
+ghost use Rattle.flat_records.specs.Records.{recordBy};
 ghost use Rattle.exports.specs.Calls.{bodyAnswer, bodyOutput};
 
 // The body of a record of a kind at a place.

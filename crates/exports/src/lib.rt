@@ -1,15 +1,17 @@
 // The calls for C and Rust. A slice crosses as its pointer and its length; a record as the words of layout.rt; an answer as a number and three words.
 // Each call ends, whatever it is handed, and changes nothing where it does not answer PANE or WRITTEN, but for the answer's words.
-mod answers;
 mod bodies;
 mod calls;
 mod sections;
 
+use exports_answers::answers;
+use exports_parts::parts;
 use exports_read::reads;
 use flat::layout;
 ghost use mathlib.Core.Path.{_≡_};
-ghost use Rattle.strip_kinds.specs.Whole.{lists};
-ghost use Rattle.exports.specs.Calls.{returned, readSeen, writeSeen, readSectionCall, readBodyCall, writeSectionCall, writeBodyCall, labelCall, captionCall};
+ghost use Rattle.strip_records.specs.Whole.{lists};
+ghost use Rattle.exports_answers.specs.Answers.{returned};
+ghost use Rattle.exports.specs.Calls.{readSeen, writeSeen, readSectionCall, readBodyCall, writeSectionCall, writeBodyCall, labelCall, captionCall};
 
 // The section at a place of data.
 #[no_mangle]
@@ -106,7 +108,7 @@ pub extern "C" fn bidlomeqa_label(data: &[u8], record: &[u64], answer: &mut [u64
     if answer.len() < layout::ANSWER_WORDS {
         return layout::SHORT_ANSWER;
     }
-    let x = calls::label(data, record);
+    let x = parts::label(data, record);
     answers::give(answer, x)
 }
 
@@ -123,6 +125,6 @@ pub extern "C" fn bidlomeqa_caption(
     if answer.len() < layout::ANSWER_WORDS {
         return layout::SHORT_ANSWER;
     }
-    let x = calls::caption(strip, record, lent);
+    let x = parts::caption(strip, record, lent);
     answers::give(answer, x)
 }

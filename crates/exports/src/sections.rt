@@ -1,18 +1,18 @@
 // The section writes by kind, from the words of a record.
-use core::checks::Written;
 use core::cursor::ByteOrder;
-use flat::ali1;
+use core_checks::checks::Written;
 use flat::base;
-use flat::pic1;
-use flat::txt1;
-use flat::wnd1;
-use strip::kind::Kind;
+use flat_kinds::ali1;
+use flat_kinds::pic1;
+use flat_kinds::txt1;
+use flat_kinds::wnd1;
+use strip_records::kind::Kind;
 ghost use Prim.Native.Nat.{_≤_};
 ghost use lib.ListN.{length};
 ghost use mathlib.Core.Path.{_≡_};
-ghost use Rattle.strip_kinds.specs.Whole.{whole};
+ghost use Rattle.strip_records.specs.Whole.{whole};
 ghost use Rattle.strip_write.specs.Write.{writeAnswer, writeOutput};
-ghost use Rattle.flat.specs.Records.{recordBy};
+ghost use Rattle.flat_records.specs.Records.{recordBy};
 
 // The section of a record of a kind at a place.
 pub(crate) fn write(
@@ -33,22 +33,22 @@ pub(crate) fn write(
     let base = base::base_of(words);
     let order = ByteOrder::Little;
     match kind {
-        Kind::Pan1 => strip::write::write_pan1(order, base, out, place),
+        Kind::Pan1 => strip_write::write::write_pan1(order, base, out, place),
         Kind::Pic1 => {
             let own = pic1::picture_of(words);
-            strip::write::write_pic1(order, base, own, quads, out, place)
+            strip_write::write::write_pic1(order, base, own, quads, out, place)
         }
         Kind::Txt1 => {
             let own = txt1::text_box_of(words);
-            strip::write::write_txt1(order, base, own, units, lines, label, out, place)
+            strip_write::write::write_txt1(order, base, own, units, lines, label, out, place)
         }
         Kind::Wnd1 => {
             let own = wnd1::window_of(words);
-            strip::write::write_wnd1(order, base, own, quads, frames, out, place)
+            strip_write::write::write_wnd1(order, base, own, quads, frames, out, place)
         }
         Kind::Ali1 => {
             let own = ali1::alignment_of(words);
-            strip::write::write_ali1(order, base, own, out, place)
+            strip_write::write::write_ali1(order, base, own, out, place)
         }
     }
 }

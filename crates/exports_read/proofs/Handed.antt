@@ -10,20 +10,20 @@ use Rattle.core.specs.declared.cursor.ByteOrder.{ByteOrder}
 use Rattle.core.specs.declared.cursor.ByteOrder.the-variants.{Little}
 use Rattle.core.specs.declared.cursor.Place.{Place}
 use Rattle.core.specs.declared.cursor.Place.the-variants as Places
-use Rattle.core.specs.declared.checks.Parsed.{Parsed}
-use Rattle.core.specs.declared.checks.Parsed.the-variants as Parseds
-use Rattle.strip_kinds.specs.Whole.{Lists, blankRecord}
+use Rattle.core_checks.specs.declared.checks.Parsed.{Parsed}
+use Rattle.core_checks.specs.declared.checks.Parsed.the-variants as Parseds
+use Rattle.strip_records.specs.Whole.{Lists, blankRecord}
 use Rattle.strip_kinds.specs.Body.{bodyRead}
 use Rattle.strip_read.specs.Read.{refusedWith, endedWith, passedWith, finished, readBody, byKind, orRefused, readAt, readSection}
-use Rattle.strip_kinds.specs.declared.kind.Kind.{Kind}
-use Rattle.strip_kinds.specs.declared.kind.Kind.the-variants.{Pan1, Pic1, Txt1, Wnd1, Ali1}
-use Rattle.strip_kinds.specs.declared.kind.KindFound.{KindFound}
-use Rattle.strip_kinds.specs.declared.kind.KindFound.the-variants.{Is, Other}
-use Rattle.strip_kinds.specs.declared.record.Record.{Record}
+use Rattle.strip_records.specs.declared.kind.Kind.{Kind}
+use Rattle.strip_records.specs.declared.kind.Kind.the-variants.{Pan1, Pic1, Txt1, Wnd1, Ali1}
+use Rattle.strip_records.specs.declared.kind.KindFound.{KindFound}
+use Rattle.strip_records.specs.declared.kind.KindFound.the-variants.{Is, Other}
+use Rattle.strip_records.specs.declared.record.Record.{Record}
 use Rattle.strip_read.specs.declared.read.SectionRead.{SectionRead}
-use Rattle.flat.specs.Records.{recordWords, recordOf}
-use Rattle.flat.specs.Typed.{TypedWords, OthersBlank}
-use Rattle.flat.proofs.Again.{handed-back}
+use Rattle.flat_records.specs.Records.{recordWords, recordOf}
+use Rattle.flat_records.specs.Typed.{TypedWords, OthersBlank}
+use Rattle.flat_records.proofs.Again.{handed-back}
 use Rattle.exports_read.specs.Outcomes.{bodyParsed}
 
 -- ---- a read leaves what the other kinds have blank

@@ -8,19 +8,19 @@ use Rattle.core.specs.Bytes.{splice}
 use Rattle.core.specs.declared.cursor.ByteOrder.the-variants.{Little}
 use Rattle.core.specs.declared.cursor.Place.{Place}
 use Rattle.core.specs.declared.error.Refusal.{Refusal}
-use Rattle.core.specs.declared.checks.Parsed.{Parsed}
-use Rattle.core.specs.declared.checks.Parsed.the-variants as Parseds
-use Rattle.strip_kinds.specs.Whole.{Lists}
+use Rattle.core_checks.specs.declared.checks.Parsed.{Parsed}
+use Rattle.core_checks.specs.declared.checks.Parsed.the-variants as Parseds
+use Rattle.strip_records.specs.Whole.{Lists}
 use Rattle.strip_kinds.specs.Body.{bodyLists}
 use Rattle.strip_read.specs.Read.{refusedWith, endedWith, passedWith, finished, readBody, readSection, listsAfter}
-use Rattle.strip_kinds.specs.declared.kind.Kind.{Kind}
-use Rattle.strip_kinds.specs.declared.record.Record.{Record}
+use Rattle.strip_records.specs.declared.kind.Kind.{Kind}
+use Rattle.strip_records.specs.declared.record.Record.{Record}
 use Rattle.strip_read.specs.declared.read.Section.the-variants as Sections
 use Rattle.strip_read.specs.declared.read.SectionRead.{SectionRead}
-use Rattle.flat.specs.Records.{kindOf, recordWords}
-use Rattle.exports_read.specs.Answers.{shortRecord, badWord, refusedAnswer, sectionAnswer}
+use Rattle.flat_records.specs.Records.{kindOf, recordWords}
+use Rattle.exports_answers.specs.Answers.{shortRecord, badWord, refusedAnswer, sectionAnswer}
 use Rattle.exports_read.specs.Outcomes.{ReadOutcome, readOutcome, delivered, sectionOutcome, listsParsed, bodyFinished, bodyDelivered, bodyOutcome}
-use Rattle.exports_read.specs.declared.answers.Answer.{Answer}
+use Rattle.exports_answers.specs.declared.answers.Answer.{Answer}
 
 -- ---- a body, as a section with its next place
 

@@ -16,18 +16,18 @@ use Rattle.window.specs.Body.{windowParsed, parsedQuads, parsedFrames}
 use Rattle.window.specs.declared.body.WindowParsed.{WindowParsed}
 use Rattle.alignment.specs.Body.{alignmentParsed}
 use Rattle.alignment.specs.declared.body.AlignmentParsed.{AlignmentParsed}
-use Rattle.strip_kinds.specs.Whole.{Lists, lists, pan1, pic1, txt1, wnd1, ali1}
+use Rattle.strip_records.specs.Whole.{Lists, lists, pan1, pic1, txt1, wnd1, ali1}
 use Rattle.strip_read.specs.Read.{finished, readSection, listsAfter}
-use Rattle.strip_kinds.specs.declared.kind.Kind.{Kind}
-use Rattle.strip_kinds.specs.declared.kind.Kind.the-variants.{Pan1, Pic1, Txt1, Wnd1, Ali1}
-use Rattle.strip_kinds.specs.declared.record.Record.{Record}
+use Rattle.strip_records.specs.declared.kind.Kind.{Kind}
+use Rattle.strip_records.specs.declared.kind.Kind.the-variants.{Pan1, Pic1, Txt1, Wnd1, Ali1}
+use Rattle.strip_records.specs.declared.record.Record.{Record}
 use Rattle.strip_kinds.specs.declared.body.BodyRead.{BodyRead}
 use Rattle.strip_read.specs.declared.read.Section.{Section}
 use Rattle.strip_read.specs.declared.read.Section.the-variants as Sections
 use Rattle.strip_read.specs.declared.read.SectionRead.{SectionRead}
-use Rattle.flat.specs.Records.{kindOf, recordWords}
-use Rattle.exports_read.specs.Answers.{shortRecord, badWord, sectionAnswer}
-use Rattle.exports_read.specs.declared.answers.Answer.{Answer}
+use Rattle.flat_records.specs.Records.{kindOf, recordWords}
+use Rattle.exports_answers.specs.Answers.{shortRecord, badWord, sectionAnswer}
+use Rattle.exports_answers.specs.declared.answers.Answer.{Answer}
 
 -- an answer, with the record's words and the lists after it
 pub record ReadOutcome : Type 0 where

@@ -1,19 +1,19 @@
 // The body call by kind, into words.
-use crate::answers::Answer;
 use crate::deliver::deliver_ali1;
 use crate::deliver::deliver_pan1;
 use crate::deliver::deliver_pic1;
 use crate::deliver::deliver_txt1;
 use crate::deliver::deliver_wnd1;
 use core::cursor::ByteOrder;
-use strip::kind::Kind;
+use exports_answers::answers::Answer;
+use strip_records::kind::Kind;
 ghost use Prim.Native.Nat.{_≤_};
 ghost use lib.ListN.{length};
 ghost use mathlib.Core.List.{[]};
 ghost use mathlib.Core.Path.{_≡_};
 ghost use Rattle.picture.specs.Body.{quadsParsed};
 ghost use Rattle.window.specs.Body.{parsedQuads, parsedFrames};
-ghost use Rattle.strip_kinds.specs.Whole.{Lists, lists, noLists};
+ghost use Rattle.strip_records.specs.Whole.{Lists, lists, noLists};
 ghost use Rattle.exports_read.specs.Outcomes.{readOutcome, delivered, unitsParsed, linesParsed, bodyFinished, bodyDelivered};
 
 fn parse_pan1(data: &[u8], place: usize, words: &mut [u64]) -> Answer

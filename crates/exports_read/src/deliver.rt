@@ -1,18 +1,18 @@
 // A body that was read, as a section with its next place: its words are stored where it was not refused.
-use crate::answers;
-use crate::answers::Answer;
-use alignment::AlignmentPane;
-use core::checks::Parsed;
-use flat::records;
-use pane::Pane;
-use picture::PicturePane;
-use strip::read::Section;
+use alignment_fields::AlignmentPane;
+use core_checks::checks::Parsed;
+use exports_answers::answers;
+use exports_answers::answers::Answer;
+use flat_records::records;
+use pane_read::Pane;
+use picture_fields::PicturePane;
+use strip_read::read::Section;
 use text_box::TextBoxPane;
 use window::WindowPane;
 ghost use Prim.Native.Nat.{_≤_};
 ghost use lib.ListN.{length};
 ghost use mathlib.Core.Path.{_≡_};
-ghost use Rattle.strip_kinds.specs.Whole.{Lists, pan1, pic1, txt1, wnd1, ali1};
+ghost use Rattle.strip_records.specs.Whole.{Lists, pan1, pic1, txt1, wnd1, ali1};
 ghost use Rattle.strip_read.specs.Read.{finished};
 ghost use Rattle.exports_read.specs.Outcomes.{readOutcome, delivered};
 

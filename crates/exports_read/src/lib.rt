@@ -1,5 +1,4 @@
-// The reads of the static library: what a call answers, and a section or a body read into the words of a record.
-pub mod answers;
+// The reads of the static library: a section or a body read into the words of a record.
 mod bodies;
 mod deliver;
 pub mod reads;

@@ -1,22 +1,22 @@
 // The read calls over the words of a record.
-use crate::answers;
-use crate::answers::Answer;
 use crate::bodies;
 use crate::sections;
 use core::cursor::ByteOrder;
 use core::cursor::Place;
+use exports_answers::answers;
+use exports_answers::answers::Answer;
 use flat::layout;
-use flat::records;
-use strip::kind::Kind;
-use strip::kind::KindFound;
-use strip::read;
-use strip::read::Section;
+use flat_records::records;
+use strip_read::read;
+use strip_read::read::Section;
+use strip_records::kind::Kind;
+use strip_records::kind::KindFound;
 ghost use Prim.Native.Nat.{_≤_};
 ghost use lib.ListN.{length};
 ghost use mathlib.Core.Path.{_≡_};
-ghost use Rattle.strip_kinds.specs.Whole.{lists};
+ghost use Rattle.strip_records.specs.Whole.{lists};
 ghost use Rattle.strip_read.specs.Read.{readAt, listsAt};
-ghost use Rattle.strip_kinds.specs.Whole.{Full};
+ghost use Rattle.strip_records.specs.Whole.{Full};
 ghost use Rattle.exports_read.specs.Outcomes.{readOutcome, delivered, sectionOutcome, bodyOutcome};
 
 // ---- a section

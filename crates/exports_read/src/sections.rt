@@ -1,5 +1,4 @@
 // The body of a section by kind, into words.
-use crate::answers::Answer;
 use crate::deliver::deliver_ali1;
 use crate::deliver::deliver_pan1;
 use crate::deliver::deliver_pic1;
@@ -7,17 +6,18 @@ use crate::deliver::deliver_txt1;
 use crate::deliver::deliver_wnd1;
 use core::cursor::ByteOrder;
 use core::cursor::Place;
-use strip::kind::Kind;
+use exports_answers::answers::Answer;
+use strip_records::kind::Kind;
 ghost use Prim.Native.Nat.{_^_, _≤_, _<_};
 ghost use lib.ListN.{length};
 ghost use mathlib.Core.Path.{_≡_};
 ghost use Rattle.picture.specs.Body.{quadsRead};
 ghost use Rattle.text_box.specs.Body.{unitsAfter, linesAfter};
 ghost use Rattle.window.specs.Body.{readQuads, readFrames};
-ghost use Rattle.strip_kinds.specs.Whole.{Lists, lists};
+ghost use Rattle.strip_records.specs.Whole.{Lists, lists};
 ghost use Rattle.strip_kinds.specs.Body.{bodyLists};
 ghost use Rattle.strip_read.specs.Read.{readBody};
-ghost use Rattle.strip_kinds.specs.Whole.{Full};
+ghost use Rattle.strip_records.specs.Whole.{Full};
 ghost use Rattle.exports_read.specs.Outcomes.{readOutcome, delivered};
 
 fn read_pan1(data: &[u8], p: Place, body: usize, next: usize, words: &mut [u64]) -> Answer

@@ -8,7 +8,7 @@ use mathlib.Core.List.{List, [], _∷_, _++_}
 use lib.ListN.{length, take, drop, set, getD, length-append, length-set}
 use lib.Seq.{take-all, take-suc-set, drop-cons, length-take-le}
 use Rattle.core.specs.Bytes.{splice}
-use Rattle.core.proofs.Puts.{length-splice, splice-append, take-more}
+use Rattle.core_write.proofs.Puts.{length-splice, splice-append, take-more}
 use Rattle.flat.specs.Words.{Stored, byteAt, bytesAt}
 
 -- words stored after others are the two together

@@ -10,7 +10,7 @@ use Rattle.flags.specs.declared.pane.PaneFlagsEx.{PaneFlagsEx}
 use Rattle.flags.specs.declared.position.BflytPosition.{BflytPosition}
 use Rattle.ui2d.specs.declared.Vector2f.{Vector2f}
 use Rattle.ui2d.specs.declared.Vector3f.{Vector3f}
-use Rattle.pane.specs.declared.Pane.{Pane}
+use Rattle.pane_read.specs.declared.Pane.{Pane}
 use Rattle.flat.specs.Words.{flagWord, byteAt, flagAt, vector2At, vector3At, bytesAt}
 
 -- ---- words

@@ -8,7 +8,7 @@ use flags::pane::PaneFlagsEx;
 use flags::position::BflytPosition;
 use flags::position::HorizontalPosition;
 use flags::position::VerticalPosition;
-use pane::Pane;
+use pane_read::Pane;
 use ui2d::Vector2f;
 use ui2d::Vector3f;
 ghost use Prim.Native.Nat.{_≤_};

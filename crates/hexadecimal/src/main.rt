@@ -4,7 +4,7 @@ use core::cursor::ByteOrder;
 use core::error::Refusal;
 use digits::Line;
 use libc::STDOUT_FILENO;
-use strip::read::Section;
+use strip_read::read::Section;
 
 // ---- answers
 
@@ -47,7 +47,7 @@ fn answer(data: &[u8]) {
     let mut units = [0u16; 32767];
     let mut lines = [0u32; 510];
     let mut frames = [0u16; 510];
-    let read = strip::read::read_section(
+    let read = strip_read::read::read_section(
         ByteOrder::Little,
         data,
         0,

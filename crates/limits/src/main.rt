@@ -1,40 +1,61 @@
 // The limits of a window's lists and of reserve0, written into a section and read back: one line of answer each.
-use core::checks::Written;
 use core::cursor::ByteOrder;
+use core::error::Refusal;
+use core_checks::checks::Written;
 use libc::STDOUT_FILENO;
-use strip::kind::Kind;
-use strip::read::Section;
-use strip::record::Record;
+use strip_read::read::Section;
+use strip_records::kind::Kind;
+use strip_records::record::Record;
+ghost use Prim.Native.Nat.{_≤_};
 
 fn print(text: &[u8]) {
     io::write_all(STDOUT_FILENO, text);
 }
 
+// A number after a space.
 fn print_figure(n: usize) {
     print(b" ");
     io::print_decimal(STDOUT_FILENO, n as u64);
 }
 
-fn print_count(n: u8) {
-    print_figure(n as usize);
+// `no NUMBER a b`
+fn print_refusal(why: Refusal) {
+    print(b"no");
+    print_figure(why.number());
+    print_figure(why.a());
+    print_figure(why.b());
 }
 
 // A blank record of a kind, with this reserve0.
 fn record_of(kind: Kind, reserve0: u8) -> Record {
-    let blank = strip::record::blank_record();
-    let mut base = blank.base;
+    let mut base = pane_read::blank_pane();
     base.flag_ex.reserve0 = reserve0;
-    let picture = blank.picture;
-    let text_box = blank.text_box;
-    let window = blank.window;
-    let alignment = blank.alignment;
     Record {
         kind,
         base,
-        picture,
-        text_box,
-        window,
-        alignment,
+        picture: picture_fields::blank_picture(),
+        text_box: text_box_read::blank_text_box(),
+        window: window_read::blank_window(),
+        alignment: alignment_fields::blank_alignment(),
+    }
+}
+
+// ---- reading
+
+fn print_pane(end: usize, next: usize, frames: u8) {
+    print(b", read: pane");
+    print_figure(end);
+    print_figure(next);
+    print(b", frames");
+    print_figure(frames as usize);
+}
+
+fn print_read(answer: Section, frames: u8) {
+    match answer {
+        Section::Pane { end, next } => print_pane(end, next, frames),
+        Section::Passed { next: _ } => print(b", passed"),
+        Section::End => print(b", end"),
+        Section::Refused(_) => print(b", refused"),
     }
 }
 
@@ -44,7 +65,7 @@ fn read_back(data: &[u8]) {
     let mut units = [7u16; 32767];
     let mut lines = [7u32; 510];
     let mut frames = [7u16; 510];
-    let read = strip::read::read_section(
+    let read = strip_read::read::read_section(
         ByteOrder::Little,
         data,
         0,
@@ -54,73 +75,64 @@ fn read_back(data: &[u8]) {
         &mut frames,
     );
     let answer = read.answer;
-    match answer {
-        Section::Pane { end, next } => {
-            print(b", read: pane");
-            print_figure(end);
-            print_figure(next);
-            print(b", frames");
-            print_count(read.record.window.frame_count);
-        }
-        Section::Passed { next: _ } => print(b", passed"),
-        Section::End => print(b", end"),
-        Section::Refused(_) => print(b", refused"),
+    print_read(answer, read.record.window.frame_count);
+}
+
+// ---- writing
+
+fn answer_end(out: &[u8], end: usize) {
+    print(b" end");
+    print_figure(end);
+    if end <= out.len() {
+        read_back(&out[0..end]);
     }
 }
 
-fn write_and_read(kind: Kind, reserve0: u8, quads: &[u32], frames: &[u16]) {
+fn answer(out: &[u8], written: Written) {
+    match written {
+        Written::End(end) => answer_end(out, end),
+        Written::Refused(why) => {
+            print(b" ");
+            print_refusal(why);
+        }
+    }
+}
+
+fn write_and_read(r: Record, quads: &[u32], frames: &[u16]) {
     let mut out = [9u8; 16384];
-    let units = [0u16; 1];
-    let lines = [0u32; 1];
-    let record = record_of(kind, reserve0);
-    let written = strip::write::write_section(
+    let written = strip_write::write::write_section(
         ByteOrder::Little,
-        record,
+        r,
         quads,
-        &units[0..0],
-        &lines[0..0],
+        &frames[0..0],
+        &quads[0..0],
         frames,
         b"",
         &mut out,
         0,
     );
-    match written {
-        Written::End(end) => {
-            print(b" end");
-            print_figure(end);
-            if end <= 16384 {
-                read_back(&out[0..end]);
-            }
-        }
-        Written::Refused(why) => {
-            print(b" no");
-            print_figure(why.number());
-            print_figure(why.a());
-            print_figure(why.b());
-        }
-    }
+    answer(&out, written);
+}
+
+// A line: what it is, and a section of this kind with so many numbers of quads and of frames.
+fn line(what: &[u8], kind: Kind, reserve0: u8, q: usize, f: usize)
+    requires { ⌜ (q ≤ 2048) × (f ≤ 512) ⌝ }
+{
+    let quads = [1u32; 2048];
+    let frames = [1u16; 512];
+    print(what);
+    write_and_read(record_of(kind, reserve0), &quads[0..q], &frames[0..f]);
     print(b"\n");
 }
 
 fn main() {
-    let frames = [1u16; 514];
-    let quads = [1u32; 2056];
-    print(b"255 frames:");
-    write_and_read(Kind::Wnd1, 31, &quads[0..0], &frames[0..510]);
-    print(b"256 frames:");
-    write_and_read(Kind::Wnd1, 31, &quads[0..0], &frames[0..512]);
-    print(b"255 quads in a window:");
-    write_and_read(Kind::Wnd1, 31, &quads[0..2040], &frames[0..0]);
-    print(b"256 quads in a window:");
-    write_and_read(Kind::Wnd1, 31, &quads[0..2048], &frames[0..0]);
-    print(b"255 quads in a picture:");
-    write_and_read(Kind::Pic1, 31, &quads[0..2040], &frames[0..0]);
-    print(b"256 quads in a picture:");
-    write_and_read(Kind::Pic1, 31, &quads[0..2048], &frames[0..0]);
-    print(b"9 numbers of quads:");
-    write_and_read(Kind::Pic1, 31, &quads[0..9], &frames[0..0]);
-    print(b"a list that the kind lacks:");
-    write_and_read(Kind::Ali1, 31, &quads[0..9], &frames[0..3]);
-    print(b"reserve0 32:");
-    write_and_read(Kind::Wnd1, 32, &quads[0..9], &frames[0..512]);
+    line(b"255 frames:", Kind::Wnd1, 31, 0, 510);
+    line(b"256 frames:", Kind::Wnd1, 31, 0, 512);
+    line(b"255 quads in a window:", Kind::Wnd1, 31, 2040, 0);
+    line(b"256 quads in a window:", Kind::Wnd1, 31, 2048, 0);
+    line(b"255 quads in a picture:", Kind::Pic1, 31, 2040, 0);
+    line(b"256 quads in a picture:", Kind::Pic1, 31, 2048, 0);
+    line(b"9 numbers of quads:", Kind::Pic1, 31, 9, 0);
+    line(b"a list that the kind lacks:", Kind::Ali1, 31, 9, 3);
+    line(b"reserve0 32:", Kind::Wnd1, 32, 9, 512);
 }

@@ -5,12 +5,13 @@ use core::cursor::ByteOrder;
 use core::error::Refusal;
 use core::text::FixedString24;
 use libc::STDOUT_FILENO;
-use strip::kind::Kind;
-use strip::read::Section;
-use strip::record::Record;
+use strip_read::read::Section;
+use strip_records::kind::Kind;
+use strip_records::record::Record;
+use walk::Step;
 ghost use mathlib.Core.Path.{_≡_};
 ghost use Prim.Native.Nat.{_-_, _≤_};
-ghost use Rattle.strip_kinds.specs.Kinds.{letterBytes};
+ghost use Rattle.strip_records.specs.Kinds.{letterBytes};
 
 // ---- the parts of a line
 
@@ -19,7 +20,7 @@ fn letters(kind: Kind) -> [u8; 4]
     ensures { λ r. ⌜ r ≡ letterBytes kind ⌝ }
 {
     let mut out = [0u8; 4];
-    core::writer::put_u32(ByteOrder::Little, &mut out, 0, kind.letters());
+    core_write::writer::put_u32(ByteOrder::Little, &mut out, 0, kind.letters());
     out
 }
 
@@ -38,9 +39,18 @@ fn print_number(n: usize) {
     io::print_decimal(STDOUT_FILENO, n as u64);
 }
 
+// A number after a space.
 fn print_figure(n: usize) {
     print(b" ");
     print_number(n);
+}
+
+// `no NUMBER a b`
+fn print_figures(why: Refusal) {
+    print(b"no");
+    print_figure(why.number());
+    print_figure(why.a());
+    print_figure(why.b());
 }
 
 fn print_place(place: usize) {
@@ -69,15 +79,17 @@ fn print_name(name: FixedString24) {
 
 // ---- the lines
 
-fn print_pane(record: Record, place: usize, next: usize) {
-    let kind = record.kind;
-    let base = record.base;
-    let name = base.pane_name;
+fn print_named(kind: Kind, name: FixedString24, place: usize, next: usize) {
     print(&letters(kind));
     print(b" \"");
     print_name(name);
     print(b"\"");
     print_size(place, next);
+}
+
+fn print_pane(record: Record, place: usize, next: usize) {
+    let kind = record.kind;
+    print_named(kind, record.base.pane_name, place, next);
 }
 
 fn print_passed(data: &[u8], place: usize, next: usize) {
@@ -148,25 +160,26 @@ fn print_read_sentence(why: Refusal) {
 }
 
 fn print_refusal(why: Refusal, place: usize) {
-    print(b"no");
-    print_figure(why.number());
-    print_figure(why.a());
-    print_figure(why.b());
+    print_figures(why);
     print_place(place);
     print(b": ");
     print_read_sentence(why);
     print(b"\n");
 }
 
-fn print_section(data: &[u8], place: usize, answer: Section, record: Record) {
+fn print_end(place: usize) {
+    print(b"end");
+    print_place(place);
+    print(b"\n");
+}
+
+// The line of a section that begins at this place, from what was read of it.
+fn print_section(data: &[u8], place: usize, read: Step) {
+    let answer = read.answer;
     match answer {
-        Section::End => {
-            print(b"end");
-            print_place(place);
-            print(b"\n");
-        }
+        Section::End => print_end(place),
         Section::Passed { next } => print_passed(data, place, next),
-        Section::Pane { end: _, next } => print_pane(record, place, next),
+        Section::Pane { end: _, next } => print_pane(read.record, place, next),
         Section::Refused(why) => print_refusal(why, place),
     }
 }
@@ -184,10 +197,8 @@ fn print_page(
     let mut place = 0;
     loop {
         let step = walk::section_after(ByteOrder::Little, data, place, quads, units, lines, frames);
-        let answer = step.answer;
-        let record = step.record;
         let next = step.place;
-        print_section(data, place, answer, record);
+        print_section(data, place, step);
         if next <= place {
             return;
         }

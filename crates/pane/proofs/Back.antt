@@ -15,11 +15,11 @@ use Rattle.core.proofs.Back.{Holds, cut, number-at, string24-at, string8-at, st
 use Rattle.flags.specs.Fields.{paneFlagsNumber, positionNumber, flagExNumber}
 use Rattle.flags.proofs.Fields.{pane-flags-back, pane-flags-fit, position-back, position-fit, flag-ex-back, flag-ex-fit}
 use Rattle.ui2d.proofs.Parts.{length-vector2, length-vector3, vector2-at, vector3-at}
-use Rattle.pane.specs.Pane.{text24, text8, paneTaken, encodeHead, encodeTransform, encodePane, Sound}
-use Rattle.pane.specs.Checks.{nameIll, textsChecked}
-use Rattle.pane.specs.Typed.{TypedPane}
-use Rattle.pane.specs.declared.Pane.{Pane}
-use Rattle.pane.specs.declared.PaneTaken.{PaneTaken}
+use Rattle.pane_read.specs.Pane.{text24, text8, paneTaken, encodeHead, encodeTransform, encodePane, Sound}
+use Rattle.pane_checks.specs.Checks.{nameIll, textsChecked}
+use Rattle.pane_read.specs.Typed.{TypedPane}
+use Rattle.pane_read.specs.declared.Pane.{Pane}
+use Rattle.pane_read.specs.declared.PaneTaken.{PaneTaken}
 use Rattle.pane.proofs.Cleared.{Good, sound}
 
 -- what reading a pane that was written gives: the same, with zeros after the names

@@ -5,21 +5,21 @@ use native.Mathlib.Omega.{arith}
 use mathlib.Core.List.{List}
 use lib.ListN.{length}
 use Rattle.core.specs.Taken.{stopIf}
-use Rattle.core.specs.Checks.{bodyStart, parsedOf, unlessRefused}
+use Rattle.core_checks.specs.Checks.{bodyStart, parsedOf, unlessRefused}
 use Rattle.core.specs.declared.error.Refusal.{Refusal}
 use Rattle.core.specs.declared.cursor.ByteOrder.{ByteOrder}
 use Rattle.core.specs.declared.cursor.Cursor.{Cursor}
 use Rattle.core.specs.declared.cursor.Place.{Place}
 use Rattle.core.specs.declared.cursor.Place.the-variants.{At, Refused}
-use Rattle.core.specs.declared.checks.Parsed.the-variants as Parseds
-use Rattle.core.proofs.Checked.{body-started}
-use Rattle.pane.specs.Pane.{paneTaken, blankPane}
-use Rattle.pane.specs.Checks.{textsChecked}
+use Rattle.core_checks.specs.declared.checks.Parsed.the-variants as Parseds
+use Rattle.core_checks.proofs.Checked.{body-started}
+use Rattle.pane_read.specs.Pane.{paneTaken, blankPane}
+use Rattle.pane_checks.specs.Checks.{textsChecked}
 use Rattle.pane.specs.Body.{paneRead, paneParsed}
-use Rattle.pane.specs.declared.Pane.{Pane}
-use Rattle.pane.specs.declared.PaneTaken.{PaneTaken}
+use Rattle.pane_read.specs.declared.Pane.{Pane}
+use Rattle.pane_read.specs.declared.PaneTaken.{PaneTaken}
 use Rattle.pane.specs.declared.body.PaneParsed.{PaneParsed}
-use Rattle.pane.proofs.Run.{pane-stays}
+use Rattle.pane_read.proofs.Run.{pane-stays}
 
 -- a body that passed checks 1 and 2 is at no large place
 pub start-small : (n body : ℕ) (c : Cursor) → bodyStart n body ≡ At c → body < 2 ^ 32

@@ -8,17 +8,17 @@ use lib.ListN.{take}
 use lib.Dec.{ltb}
 use borrow.Author.Tests.{ltb-false, not-false}
 use Rattle.core.specs.Taken.{hasZero}
-use Rattle.core.specs.Checks.{bodyStart}
+use Rattle.core_checks.specs.Checks.{bodyStart}
 use Rattle.core.specs.declared.cursor.Cursor.{Cursor}
 use Rattle.core.specs.declared.cursor.Place.{Place}
 use Rattle.core.specs.declared.cursor.Place.the-variants.{At}
 use Rattle.core.proofs.Runs.{cleared}
-use Rattle.core.proofs.Checked.{BodyOk, body-started, end-cleared}
+use Rattle.core_checks.proofs.Checked.{BodyOk, body-started, end-cleared}
 use Rattle.unicode.specs.Utf8.{wellFormed}
-use Rattle.pane.specs.Pane.{Sound}
-use Rattle.pane.specs.Checks.{nameIll, nameBad, namesChecked, reserveChecked}
+use Rattle.pane_read.specs.Pane.{Sound}
+use Rattle.pane_checks.specs.Checks.{nameIll, nameBad, namesChecked, reserveChecked}
 use Rattle.pane.specs.Body.{paneWriteChecked}
-use Rattle.pane.specs.declared.Pane.{Pane}
+use Rattle.pane_read.specs.declared.Pane.{Pane}
 
 or-false : (a b : Bool) → (a || b) ≡ false → (a ≡ false) × (b ≡ false)
 or-false true b e = (e, cc)

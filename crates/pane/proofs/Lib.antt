@@ -1,5 +1,3 @@
-pub mod Run
-pub mod Here
 pub mod Cleared
 pub mod Calls
 pub mod Back

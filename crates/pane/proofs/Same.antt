@@ -2,9 +2,9 @@
 use mathlib.Core.Path.{_≡_, refl, sym, _∙_}
 use Rattle.core.specs.declared.cursor.ByteOrder.{ByteOrder}
 use Rattle.core.proofs.Back.{string24-text, string8-text}
-use Rattle.pane.specs.Pane.{text24, text8, encodeHead, encodeTransform, encodePane}
+use Rattle.pane_read.specs.Pane.{text24, text8, encodeHead, encodeTransform, encodePane}
 use Rattle.pane.specs.Same.{SamePane}
-use Rattle.pane.specs.declared.Pane.{Pane}
+use Rattle.pane_read.specs.declared.Pane.{Pane}
 use Rattle.pane.proofs.Back.{readBack}
 
 pub read-same : (b : Pane) → SamePane (readBack b) b

@@ -3,14 +3,14 @@ use Prim.Native.Nat.{ℕ, _+_}
 use mathlib.Core.List.{List}
 use lib.ListN.{length}
 use Rattle.core.specs.Bytes.{splice}
-use Rattle.core.specs.Checks.{bodyStart, endChecked, parsedOf, unlessRefused, writtenOf}
+use Rattle.core_checks.specs.Checks.{bodyStart, endChecked, parsedOf, unlessRefused, writtenOf}
 use Rattle.core.specs.declared.cursor.ByteOrder.{ByteOrder}
 use Rattle.core.specs.declared.cursor.Place.{Place}
-use Rattle.core.specs.declared.checks.Written.{Written}
-use Rattle.pane.specs.Pane.{paneTaken, blankPane, encodePane}
-use Rattle.pane.specs.Checks.{textsChecked, namesChecked, reserveChecked}
-use Rattle.pane.specs.declared.Pane.{Pane}
-use Rattle.pane.specs.declared.PaneTaken.{PaneTaken}
+use Rattle.core_checks.specs.declared.checks.Written.{Written}
+use Rattle.pane_read.specs.Pane.{paneTaken, blankPane, encodePane}
+use Rattle.pane_checks.specs.Checks.{textsChecked, namesChecked, reserveChecked}
+use Rattle.pane_read.specs.declared.Pane.{Pane}
+use Rattle.pane_read.specs.declared.PaneTaken.{PaneTaken}
 use Rattle.pane.specs.declared.body.PaneParsed.{PaneParsed}
 
 -- a read from a place p of the run, of a body at B: the fields with 4, then 7

@@ -1,5 +1,2 @@
-pub mod Pane
-pub mod Checks
 pub mod Body
 pub mod Same
-pub mod Typed

@@ -1,7 +1,7 @@
 -- When two base panes are equal: every field, floats by their bits, names by their counted bytes.
 use mathlib.Core.Path.{_≡_}
-use Rattle.pane.specs.Pane.{text24, text8}
-use Rattle.pane.specs.declared.Pane.{Pane}
+use Rattle.pane_read.specs.Pane.{text24, text8}
+use Rattle.pane_read.specs.declared.Pane.{Pane}
 
 pub record SamePane (a b : Pane) : Type 0 where
   pub flags : a .«pane_flags» ≡ b .«pane_flags»

@@ -1,18 +1,18 @@
 // The body calls of a base pane: any bytes are read or refused, any pane is written or refused.
-use crate::Pane;
-use crate::checks::names_checked;
-use crate::checks::reserve_checked;
-use crate::checks::texts_checked;
-use core::checks;
-use core::checks::Parsed;
-use core::checks::Written;
 use core::cursor::ByteOrder;
 use core::cursor::Place;
 use core::error::Refusal;
+use core_checks::checks;
+use core_checks::checks::Parsed;
+use core_checks::checks::Written;
+use pane_checks::checks::names_checked;
+use pane_checks::checks::reserve_checked;
+use pane_checks::checks::texts_checked;
+use pane_read::Pane;
 ghost use mathlib.Core.Path.{_≡_};
 ghost use Prim.Native.Nat.{_^_, _<_};
 ghost use lib.ListN.{length};
-ghost use Rattle.pane.specs.Pane.{blankPane};
+ghost use Rattle.pane_read.specs.Pane.{blankPane};
 ghost use Rattle.pane.specs.Body.{paneRead, paneParsed, paneWriteChecked, paneWritten, paneOutput};
 
 // What a body read gives: its answer, and the pane, blank where it was refused.
@@ -26,7 +26,7 @@ fn refused(why: Refusal) -> PaneParsed
 {
     PaneParsed {
         answer: Parsed::Refused(why),
-        pane: crate::blank_pane(),
+        pane: pane_read::blank_pane(),
     }
 }
 
@@ -35,7 +35,7 @@ pub fn read(order: ByteOrder, data: &[u8], p: Place, place: usize) -> PaneParsed
     requires { ⌜ place < 2 ^ 32 ⌝ }
     ensures { λ r. ⌜ r ≡ paneRead order (now («data» .entry)) p place ⌝ }
 {
-    let taken = crate::take_pane(order, data, p);
+    let taken = pane_read::take_pane(order, data, p);
     let pane = taken.pane;
     let q = taken.then;
     let then = texts_checked(q, pane, place);

@@ -16,18 +16,18 @@ use Rattle.core.proofs.Cursors.{advanced-zero, advanced-more}
 use Rattle.core.proofs.Back.{Holds, Fit, length-all, numbers-back, cut, there, number-at}
 use Rattle.ui2d.specs.Parts.{encodeColors}
 use Rattle.ui2d.proofs.Colors.{length-colors, colors-at}
-use Rattle.pane.specs.Pane.{Sound}
-use Rattle.pane.specs.declared.Pane.{Pane}
+use Rattle.pane_read.specs.Pane.{Sound}
+use Rattle.pane_read.specs.declared.Pane.{Pane}
 use Rattle.pane.proofs.Back.{length-pane}
-use Rattle.picture.specs.Picture.{shapeTaken, pictureTaken, quadsOf, pictureQuads, GoodPicture, shapeByte, shapeLength, encodeShape, encodePicture, pictureLength}
+use Rattle.picture_fields.specs.Picture.{shapeTaken, pictureTaken, quadsOf, pictureQuads, GoodPicture, shapeByte, shapeLength, encodeShape, encodePicture, pictureLength}
 use Rattle.picture.specs.Body.{encodeBody, bodyLength}
-use Rattle.picture.specs.Same.{SamePicture}
-use Rattle.picture.specs.Typed.{TypedShape, TypedPicture}
-use Rattle.picture.specs.declared.ShapeIndex.{ShapeIndex}
-use Rattle.picture.specs.declared.ShapeIndex.the-variants.{Absent, Index}
-use Rattle.picture.specs.declared.PicturePane.{PicturePane}
-use Rattle.picture.specs.declared.ShapeTaken.{ShapeTaken}
-use Rattle.picture.specs.declared.PictureTaken.{PictureTaken}
+use Rattle.picture_fields.specs.Same.{SamePicture}
+use Rattle.picture_fields.specs.Typed.{TypedShape, TypedPicture}
+use Rattle.picture_fields.specs.declared.ShapeIndex.{ShapeIndex}
+use Rattle.picture_fields.specs.declared.ShapeIndex.the-variants.{Absent, Index}
+use Rattle.picture_fields.specs.declared.PicturePane.{PicturePane}
+use Rattle.picture_fields.specs.declared.ShapeTaken.{ShapeTaken}
+use Rattle.picture_fields.specs.declared.PictureTaken.{PictureTaken}
 
 -- what reading a picture that was written gives: the same, with the count of its quads
 unfoldable pub readBackPicture : PicturePane → List ℕ → PicturePane

@@ -4,24 +4,24 @@ use Prim.Native.Nat.{ℕ, _^_, _≤_, _<_}
 use mathlib.Core.List.{List}
 use lib.ListN.{length}
 use Rattle.core.specs.Taken.{over}
-use Rattle.core.specs.Checks.{parsedOf, unlessRefused}
+use Rattle.core_checks.specs.Checks.{parsedOf, unlessRefused}
 use Rattle.core.specs.declared.error.Refusal.{Refusal}
 use Rattle.core.specs.declared.cursor.ByteOrder.{ByteOrder}
 use Rattle.core.specs.declared.cursor.Cursor.{Cursor}
 use Rattle.core.specs.declared.cursor.Place.{Place}
 use Rattle.core.specs.declared.cursor.Place.the-variants.{At, Refused}
-use Rattle.core.specs.declared.checks.Parsed.the-variants as Parseds
+use Rattle.core_checks.specs.declared.checks.Parsed.the-variants as Parseds
 use Rattle.core.proofs.Runs.{cleared}
-use Rattle.core.proofs.Checked.{list-cleared}
-use Rattle.pane.specs.Pane.{paneTaken}
-use Rattle.pane.specs.Checks.{textsChecked}
-use Rattle.pane.specs.declared.Pane.{Pane}
-use Rattle.pane.specs.declared.PaneTaken.{PaneTaken}
-use Rattle.pane.proofs.Run.{pane-stays}
+use Rattle.core_checks.proofs.Checked.{list-cleared}
+use Rattle.pane_read.specs.Pane.{paneTaken}
+use Rattle.pane_checks.specs.Checks.{textsChecked}
+use Rattle.pane_read.specs.declared.Pane.{Pane}
+use Rattle.pane_read.specs.declared.PaneTaken.{PaneTaken}
+use Rattle.pane_read.proofs.Run.{pane-stays}
 use Rattle.pane.proofs.Calls.{start-small, texts-stay}
-use Rattle.picture.specs.Picture.{pictureTaken, quadsOf, Measured}
+use Rattle.picture_fields.specs.Picture.{pictureTaken, quadsOf, Measured}
 use Rattle.picture.specs.Body.{Blank, pictureRead, quadsRead, pictureStart, pictureParsed, quadsParsed}
-use Rattle.picture.specs.declared.PictureTaken.{PictureTaken}
+use Rattle.picture_fields.specs.declared.PictureTaken.{PictureTaken}
 use Rattle.picture.specs.declared.body.PictureParsed.{PictureParsed}
 use Rattle.picture.proofs.Came.{picture-stays, came-through}
 

@@ -18,9 +18,9 @@ use Rattle.core.specs.declared.cursor.Place.the-variants.{At, Refused}
 use Rattle.core.proofs.Cursors.{pos-advanced}
 use Rattle.core.proofs.Lists.{number-here, numbers-stay}
 use Rattle.ui2d.specs.Parts.{colorsTaken, colorTaken}
-use Rattle.picture.specs.Picture.{shapeTaken, pictureTaken, quadsOf, Measured}
-use Rattle.picture.specs.declared.ShapeTaken.{ShapeTaken}
-use Rattle.picture.specs.declared.PictureTaken.{PictureTaken}
+use Rattle.picture_fields.specs.Picture.{shapeTaken, pictureTaken, quadsOf, Measured}
+use Rattle.picture_fields.specs.declared.ShapeTaken.{ShapeTaken}
+use Rattle.picture_fields.specs.declared.PictureTaken.{PictureTaken}
 
 -- ---- any run
 

@@ -4,19 +4,19 @@ use Prim.Native.Nat.{ℕ, _+_, _^_, _≤_, _<_}
 use native.Mathlib.Omega.{arith}
 use mathlib.Core.List.{List}
 use lib.ListN.{length}
-use Rattle.core.specs.Checks.{bodyStart, endChecked}
+use Rattle.core_checks.specs.Checks.{bodyStart, endChecked}
 use Rattle.core.specs.declared.error.Refusal.{Refusal}
 use Rattle.core.specs.declared.cursor.Cursor.{Cursor}
 use Rattle.core.specs.declared.cursor.Place.{Place}
 use Rattle.core.specs.declared.cursor.Place.the-variants.{At, Refused}
-use Rattle.core.proofs.Checked.{BodyOk, body-started, count-cleared, end-cleared, end-stays}
-use Rattle.pane.specs.Checks.{namesChecked, reserveChecked}
-use Rattle.pane.specs.declared.Pane.{Pane}
+use Rattle.core_checks.proofs.Checked.{BodyOk, body-started, count-cleared, end-cleared, end-stays}
+use Rattle.pane_checks.specs.Checks.{namesChecked, reserveChecked}
+use Rattle.pane_read.specs.declared.Pane.{Pane}
 use Rattle.pane.proofs.Cleared.{Good, base-cleared}
-use Rattle.picture.specs.Picture.{pictureChecked, GoodPicture, pictureLength}
+use Rattle.picture_fields.specs.Picture.{pictureChecked, GoodPicture, pictureLength}
 use Rattle.picture.specs.Body.{bodyLength, pictureWriteChecked}
-use Rattle.picture.specs.declared.PicturePane.{PicturePane}
-use Rattle.picture.proofs.Run.{shape-short}
+use Rattle.picture_fields.specs.declared.PicturePane.{PicturePane}
+use Rattle.picture_fields.proofs.Run.{shape-short}
 
 -- check 11
 pub picture-cleared : (p : Place) (quads : List ℕ) (c : Cursor) → pictureChecked p quads ≡ At c → (p ≡ At c) × GoodPicture quads

@@ -7,13 +7,13 @@ use lib.ListN.{replicate}
 use Rattle.core.specs.Bytes.{numberAt, spelled, part}
 use Rattle.core.specs.Taken.{start, advanced, numberTaken}
 use Rattle.core.specs.Lists.{numbersTaken}
-use Rattle.core.specs.Checks.{countBad}
+use Rattle.core_checks.specs.Checks.{countBad}
 use Rattle.core.specs.declared.error.Refusal.the-variants.{UnexpectedEof}
 use Rattle.core.specs.declared.cursor.ByteOrder.the-variants.{Little}
 use Rattle.core.specs.declared.cursor.Place.the-variants.{At, Refused}
 use Rattle.ui2d.specs.Parts.{colorsTaken, colorTaken}
-use Rattle.picture.specs.Picture.{shapeTaken, pictureTaken, shapeByte}
-use Rattle.picture.specs.declared.ShapeIndex.the-variants.{Index}
+use Rattle.picture_fields.specs.Picture.{shapeTaken, pictureTaken, shapeByte}
+use Rattle.picture_fields.specs.declared.ShapeIndex.the-variants.{Index}
 
 -- 255 quads are written, 256 refused by 11, and so is a part of a quad
 most-quads : countBad 8 2040 ≡ false

@@ -5,19 +5,19 @@ use mathlib.Core.List.{List, _++_}
 use lib.ListN.{length}
 use Rattle.core.specs.Bytes.{splice}
 use Rattle.core.specs.Taken.{over}
-use Rattle.core.specs.Checks.{bodyStart, listChecked, endChecked, parsedOf, unlessRefused, writtenOf}
+use Rattle.core_checks.specs.Checks.{bodyStart, listChecked, endChecked, parsedOf, unlessRefused, writtenOf}
 use Rattle.core.specs.declared.error.Refusal.{Refusal}
 use Rattle.core.specs.declared.cursor.ByteOrder.{ByteOrder}
 use Rattle.core.specs.declared.cursor.Place.{Place}
-use Rattle.core.specs.declared.checks.Parsed.the-variants as Parseds
-use Rattle.core.specs.declared.checks.Written.{Written}
-use Rattle.pane.specs.Pane.{paneTaken, blankPane, encodePane}
-use Rattle.pane.specs.Checks.{textsChecked, namesChecked, reserveChecked}
-use Rattle.pane.specs.declared.Pane.{Pane}
-use Rattle.pane.specs.declared.PaneTaken.{PaneTaken}
-use Rattle.picture.specs.Picture.{pictureTaken, quadsOf, blankPicture, pictureChecked, pictureLength, encodePicture}
-use Rattle.picture.specs.declared.PicturePane.{PicturePane}
-use Rattle.picture.specs.declared.PictureTaken.{PictureTaken}
+use Rattle.core_checks.specs.declared.checks.Parsed.the-variants as Parseds
+use Rattle.core_checks.specs.declared.checks.Written.{Written}
+use Rattle.pane_read.specs.Pane.{paneTaken, blankPane, encodePane}
+use Rattle.pane_checks.specs.Checks.{textsChecked, namesChecked, reserveChecked}
+use Rattle.pane_read.specs.declared.Pane.{Pane}
+use Rattle.pane_read.specs.declared.PaneTaken.{PaneTaken}
+use Rattle.picture_fields.specs.Picture.{pictureTaken, quadsOf, blankPicture, pictureChecked, pictureLength, encodePicture}
+use Rattle.picture_fields.specs.declared.PicturePane.{PicturePane}
+use Rattle.picture_fields.specs.declared.PictureTaken.{PictureTaken}
 use Rattle.picture.specs.declared.body.PictureParsed.{PictureParsed}
 
 -- what a refused read gives

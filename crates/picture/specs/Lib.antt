@@ -1,4 +1,1 @@
-pub mod Picture
 pub mod Body
-pub mod Same
-pub mod Typed

@@ -1,21 +1,21 @@
 // The body calls of a picture pane: any bytes are read or refused, any pane with its quads is written or refused.
-use crate::PicturePane;
-use core::checks;
-use core::checks::Parsed;
-use core::checks::Written;
 use core::cursor::ByteOrder;
 use core::cursor::Place;
 use core::error::Refusal;
-use pane::Pane;
-use pane::checks::names_checked;
-use pane::checks::reserve_checked;
-use pane::checks::texts_checked;
+use core_checks::checks;
+use core_checks::checks::Parsed;
+use core_checks::checks::Written;
+use pane_checks::checks::names_checked;
+use pane_checks::checks::reserve_checked;
+use pane_checks::checks::texts_checked;
+use pane_read::Pane;
+use picture_fields::PicturePane;
 ghost use mathlib.Core.Path.{_≡_};
 ghost use Prim.Native.Nat.{_^_, _<_, _≤_};
 ghost use lib.ListN.{length};
 ghost use Rattle.core.specs.Bytes.{Room, Put};
-ghost use Rattle.pane.specs.Pane.{Sound};
-ghost use Rattle.picture.specs.Picture.{GoodPicture};
+ghost use Rattle.pane_read.specs.Pane.{Sound};
+ghost use Rattle.picture_fields.specs.Picture.{GoodPicture};
 ghost use Rattle.picture.specs.Body.{Blank, pictureRead, quadsRead, pictureStart, pictureParsed, quadsParsed, bodyLength, encodeBody, pictureWriteChecked, pictureWritten, pictureOutput};
 
 // What a body read gives: its answer, and the pane, blank where it was refused.
@@ -30,8 +30,8 @@ fn refused(why: Refusal) -> PictureParsed
 {
     PictureParsed {
         answer: Parsed::Refused(why),
-        base: pane::blank_pane(),
-        picture: crate::blank_picture(),
+        base: pane_read::blank_pane(),
+        picture: picture_fields::blank_picture(),
     }
 }
 
@@ -47,16 +47,16 @@ pub fn read(
     ensures { λ r. ⌜ r ≡ pictureRead order (now («data» .entry)) p place ⌝ }
     ensures { λ _. ⌜ now (quads .exit) ≡ quadsRead order (now («data» .entry)) p place (now (quads .entry)) ⌝ }
 {
-    let taken = pane::take_pane(order, data, p);
+    let taken = pane_read::take_pane(order, data, p);
     let base = taken.pane;
     let p1 = taken.then;
-    let own = crate::measure_picture(order, data, p1);
+    let own = picture_fields::measure_picture(order, data, p1);
     let picture = own.picture;
     let p2 = own.then;
     let then = texts_checked(p2, base, place);
     match then {
         Place::At(c) => {
-            crate::fill_picture(order, data, own, quads);
+            picture_fields::fill_picture(order, data, own, quads);
             let end = c.pos;
             PictureParsed {
                 answer: Parsed::Read { end },
@@ -93,7 +93,7 @@ pub fn body_length(x: PicturePane, quads: &[u32]) -> usize
     requires { ⌜ GoodPicture (now quads) ⌝ }
     ensures { λ r. ⌜ r ≡ bodyLength x (now (quads .entry)) ⌝ }
 {
-    76 + crate::picture_length(x, quads)
+    76 + picture_fields::picture_length(x, quads)
 }
 
 // 1, 2, 9, 10, 11 and 16
@@ -103,7 +103,7 @@ fn write_checked(b: Pane, x: PicturePane, quads: &[u32], length: usize, place: u
     let p = checks::body_start(length, place);
     let p = names_checked(p, b);
     let p = reserve_checked(p, b);
-    let p = crate::picture_checked(p, quads);
+    let p = picture_fields::picture_checked(p, quads);
     match p {
         Place::At(c) => {
             let width = body_length(x, quads);
@@ -126,7 +126,7 @@ pub fn put_body(
     ensures { λ r. ⌜ Put (now (out .entry)) p (bodyLength x (now (quads .entry))) (encodeBody order b x (now (quads .entry))) r (now (out .exit)) ⌝ }
 {
     let q = pane::put_pane(order, out, p, b);
-    crate::put_picture(order, out, q, x, quads)
+    picture_fields::put_picture(order, out, q, x, quads)
 }
 
 // The picture pane at a place: checks 1, 2, 9, 10, 11, 16. A refusal leaves the output as it was; an accepted write answers its end, and changes no byte but its own.

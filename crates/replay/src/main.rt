@@ -1,17 +1,17 @@
 // Reads lines of hexadecimal digits, one section a line at place 0, as the program hexadecimal does, and writes each pane that it reads back at place 0:
 // `pane R N SECTION` with the section's bytes in hexadecimal, `pass N`, `no NUMBER a b`, `end`, or `bad`. Its stored lines and answers are nnbfl's own,
 // made by the program `answers` of differential/: the sections read, and the bytes that nnbfl writes for them.
-use core::checks::Written;
 use core::cursor::ByteOrder;
 use core::error::Refusal;
+use core_checks::checks::Written;
 use digits::Line;
 use libc::STDOUT_FILENO;
-use strip::kind::Kind;
-use strip::read::Section;
-use strip::record::Record;
-use text_box::LineTable;
-use text_box::Text;
-use text_box::TextBoxPane;
+use strip_read::read::Section;
+use strip_records::kind::Kind;
+use strip_records::record::Record;
+use text_box_read::LineTable;
+use text_box_read::Text;
+use text_box_read::TextBoxPane;
 ghost use Prim.Native.Nat.{_≤_, _<_};
 ghost use lib.ListN.{length};
 
@@ -119,8 +119,8 @@ fn write_back(data: &[u8], r: Record, quads: &[u32], units: &[u16], lines: &[u32
     let mut out = [0u8; 32768];
     let x = r.text_box;
     let name = x.label;
-    let label = text_box::caption::label(data, name);
-    let written = strip::write::write_section(
+    let label = text_box_caption::caption::label(data, name);
+    let written = strip_write::write::write_section(
         ByteOrder::Little,
         r,
         quads,
@@ -169,7 +169,7 @@ fn answer(data: &[u8]) {
     let mut units = [7u16; 32767];
     let mut lines = [7u32; 510];
     let mut frames = [7u16; 510];
-    let read = strip::read::read_section(
+    let read = strip_read::read::read_section(
         ByteOrder::Little,
         data,
         0,

@@ -10,7 +10,7 @@ use lib.Dec.{lit≤, eqb}
 use borrow.Author.Tests.{le-ltb, eq-eqb, ne-eqb}
 use Rattle.core.specs.Bytes.{bytesOf, padding}
 use Rattle.core.specs.Taken.{start, advanced, stopIf, numberTaken}
-use Rattle.core.specs.Checks.{unlessRefused}
+use Rattle.core_checks.specs.Checks.{unlessRefused}
 use Rattle.core.specs.declared.cursor.ByteOrder.{ByteOrder}
 use Rattle.core.specs.declared.cursor.ByteOrder.the-variants.{Little}
 use Rattle.core.specs.declared.cursor.Cursor.{Cursor}
@@ -18,7 +18,7 @@ use Rattle.core.specs.declared.cursor.Place.{Place}
 use Rattle.core.specs.declared.cursor.Place.the-variants.{At}
 use Rattle.core.proofs.Numbers.{length-bytes}
 use Rattle.core.proofs.Cursors.{pos-start, pos-advanced, advanced-zero, advanced-more}
-use Rattle.core.proofs.Checked.{SectionOk, section-passes, list-passes}
+use Rattle.core_checks.proofs.Checked.{SectionOk, section-passes, list-passes}
 use Rattle.core.proofs.Back.{Holds, split, holds-left, holds-fits, cut, number-at}
 use Rattle.pane.proofs.Cleared.{Good, sound}
 use Rattle.pane.proofs.Back.{length-pane}
@@ -29,17 +29,17 @@ use Rattle.text_box.proofs.Shift as text-box-shift
 use Rattle.window.proofs.Lengths as window-lengths
 use Rattle.window.proofs.Same as window-same
 use Rattle.alignment.proofs.Back as alignment-laws
-use Rattle.strip_kinds.specs.Kinds.{letterBytes, lettersOf, kindOf}
-use Rattle.strip_kinds.specs.Whole.{Lists, Full, Whole}
+use Rattle.strip_records.specs.Kinds.{letterBytes, lettersOf, kindOf}
+use Rattle.strip_records.specs.Whole.{Lists, Full, Whole}
 use Rattle.strip.specs.Same.{SameOwn, readWhole}
-use Rattle.strip.specs.Typed.{Typed}
+use Rattle.strip_records.specs.Typed.{Typed}
 use Rattle.strip_read.specs.Read.{readStart, sizeBad, headerTaken, finished, readBody, byKind, listsByKind, orRefused, endedWith, readAt, listsAt, readSection, listsAfter}
 use Rattle.strip_write.specs.Write.{bodyLength, encodeBody, sectionSize, sizeOf, section, sectionEnd}
-use Rattle.strip_kinds.specs.declared.kind.Kind.{Kind}
-use Rattle.strip_kinds.specs.declared.kind.Kind.the-variants.{Pan1, Pic1, Txt1, Wnd1, Ali1}
-use Rattle.strip_kinds.specs.declared.kind.KindFound.{KindFound}
-use Rattle.strip_kinds.specs.declared.kind.KindFound.the-variants.{Is, Other}
-use Rattle.strip_kinds.specs.declared.record.Record.{Record}
+use Rattle.strip_records.specs.declared.kind.Kind.{Kind}
+use Rattle.strip_records.specs.declared.kind.Kind.the-variants.{Pan1, Pic1, Txt1, Wnd1, Ali1}
+use Rattle.strip_records.specs.declared.kind.KindFound.{KindFound}
+use Rattle.strip_records.specs.declared.kind.KindFound.the-variants.{Is, Other}
+use Rattle.strip_records.specs.declared.record.Record.{Record}
 use Rattle.strip_read.specs.declared.read.Header.{Header}
 use Rattle.strip_read.specs.declared.read.SectionRead.{SectionRead}
 use Rattle.strip_read.specs.declared.read.Section.the-variants as Sections

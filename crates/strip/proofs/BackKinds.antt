@@ -6,23 +6,23 @@ use mathlib.Core.List.{List, [], _∷_, _++_}
 use lib.ListN.{length, take, drop}
 use lib.Seq.{take-append-seam}
 use Rattle.core.specs.Taken.{advanced, over}
-use Rattle.core.specs.Checks.{parsedOf, unlessRefused}
+use Rattle.core_checks.specs.Checks.{parsedOf, unlessRefused}
 use Rattle.core.specs.declared.cursor.ByteOrder.{ByteOrder}
 use Rattle.core.specs.declared.cursor.Cursor.{Cursor}
 use Rattle.core.specs.declared.cursor.Place.{Place}
 use Rattle.core.specs.declared.cursor.Place.the-variants.{At}
-use Rattle.core.specs.declared.checks.Parsed.the-variants as Parseds
+use Rattle.core_checks.specs.declared.checks.Parsed.the-variants as Parseds
 use Rattle.core.proofs.Cursors.{pos-advanced, advanced-more}
 use Rattle.core.specs.Lists.{numbersAt}
 use Rattle.core.proofs.Lists.{length-numbers}
 use Rattle.core.proofs.Back.{Holds, split, Fit}
-use Rattle.pane.specs.Pane.{encodePane}
+use Rattle.pane_read.specs.Pane.{encodePane}
 use Rattle.pane.specs.Body.{paneRead}
 use Rattle.pane.proofs.Cleared.{Good, sound}
 use Rattle.pane.proofs.Back.{readBack, length-pane, pane-back, texts-back}
-use Rattle.picture.specs.Picture.{blankPicture, quadsOf, pictureQuads, pictureTaken, pictureLength, encodePicture}
+use Rattle.picture_fields.specs.Picture.{blankPicture, quadsOf, pictureQuads, pictureTaken, pictureLength, encodePicture}
 use Rattle.picture.specs.Body as picture
-use Rattle.picture.specs.declared.PicturePane.{PicturePane}
+use Rattle.picture_fields.specs.declared.PicturePane.{PicturePane}
 use Rattle.picture.proofs.Back as picture-laws
 use Rattle.text_box_read.specs.TextBox.{blankTextBox}
 use Rattle.text_box_read.specs.Parts.{unitsOf, linesOf, textBoxUnits, textBoxLines}
@@ -44,18 +44,18 @@ use Rattle.window.specs.Body as window
 use Rattle.window_read.specs.declared.WindowPane.{WindowPane}
 use Rattle.window.proofs.Back as window-laws
 use Rattle.window.proofs.Fields.{readBackContent}
-use Rattle.alignment.specs.Alignment.{blankAlignment, encodeAlignment}
+use Rattle.alignment_fields.specs.Alignment.{blankAlignment, encodeAlignment}
 use Rattle.alignment.specs.Body as alignment
-use Rattle.alignment.specs.declared.AlignmentPane.{AlignmentPane}
+use Rattle.alignment_fields.specs.declared.AlignmentPane.{AlignmentPane}
 use Rattle.alignment.proofs.Back as alignment-laws
-use Rattle.strip_kinds.specs.Whole.{Lists, Whole}
+use Rattle.strip_records.specs.Whole.{Lists, Whole}
 use Rattle.strip.specs.Same.{SameOwn, readWhole, unitNumbers, lineNumbers}
-use Rattle.strip.specs.Typed.{Typed}
+use Rattle.strip_records.specs.Typed.{Typed}
 use Rattle.strip_kinds.specs.Body.{bodyRead, bodyLists}
 use Rattle.strip_write.specs.Write.{encodeBody}
-use Rattle.strip_kinds.specs.declared.kind.Kind.{Kind}
-use Rattle.strip_kinds.specs.declared.kind.Kind.the-variants.{Pan1, Pic1, Txt1, Wnd1, Ali1}
-use Rattle.strip_kinds.specs.declared.record.Record.{Record}
+use Rattle.strip_records.specs.declared.kind.Kind.{Kind}
+use Rattle.strip_records.specs.declared.kind.Kind.the-variants.{Pan1, Pic1, Txt1, Wnd1, Ali1}
+use Rattle.strip_records.specs.declared.record.Record.{Record}
 use Rattle.strip_kinds.specs.declared.body.BodyRead.{BodyRead}
 use Rattle.strip.proofs.Below.{below-fit, below-at}
 use Rattle.strip_write.proofs.Cleared.{OwnGood}

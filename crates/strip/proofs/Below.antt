@@ -5,7 +5,7 @@ use native.Mathlib.Nat.{one-le-pow}
 use lib.ListN.{getD}
 use lib.Dec.{lit≤}
 use Rattle.core.proofs.Back.{Fit}
-use Rattle.strip.specs.Typed.{Below}
+use Rattle.strip_records.specs.Typed.{Below}
 
 pub below-all : (n : ℕ) (l : List ℕ) → ((i : ℕ) → getD l i 0 < n) → Below n l
 unfolding Below

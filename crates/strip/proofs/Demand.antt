@@ -9,18 +9,18 @@ use mathlib.Core.List.{List, [], _∷_, _++_, append-assoc, append-nil}
 use lib.ListN.{length, take, drop, replicate, length-append, length-take, length-replicate}
 use lib.Seq.{length-take-le, take-at}
 use Rattle.core.specs.Bytes.{splice}
-use Rattle.core.specs.Checks.{unlessRefused, writtenOf}
+use Rattle.core_checks.specs.Checks.{unlessRefused, writtenOf}
 use Rattle.core.specs.declared.error.Refusal.{Refusal}
 use Rattle.core.specs.declared.cursor.ByteOrder.{ByteOrder}
 use Rattle.core.specs.declared.cursor.Place.{Place}
 use Rattle.core.specs.declared.cursor.Place.the-variants as Places
-use Rattle.core.specs.declared.checks.Written.{Written}
-use Rattle.core.specs.declared.checks.Written.the-variants as Writtens
-use Rattle.core.proofs.Puts.{splice-cut, length-splice}
+use Rattle.core_checks.specs.declared.checks.Written.{Written}
+use Rattle.core_checks.specs.declared.checks.Written.the-variants as Writtens
+use Rattle.core_write.proofs.Puts.{splice-cut, length-splice}
 use Rattle.core.proofs.Back.{Holds}
-use Rattle.strip_kinds.specs.Whole.{Lists, Full, Whole}
+use Rattle.strip_records.specs.Whole.{Lists, Full, Whole}
 use Rattle.strip.specs.Same.{Same, readWhole}
-use Rattle.strip.specs.Typed.{Typed}
+use Rattle.strip_records.specs.Typed.{Typed}
 use Rattle.strip_read.specs.Read.{endedWith, readSection, listsAfter}
 use Rattle.strip_write.specs.Write.{sizeOf, section, sectionEnd, writeChecked, writeAnswer, writeOutput}
 use Rattle.strip.specs.Strip.{All, Run, step, runFrom, run, strip, SameAll, Gave, Gives}

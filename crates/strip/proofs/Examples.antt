@@ -5,24 +5,24 @@ use Prim.Native.Nat.{ℕ, _+_}
 use lib.ListN.{replicate}
 use Rattle.core.specs.Bytes.{spelled, part, numberAt, padding}
 use Rattle.core.specs.Taken.{start, advanced, stopIf, numberTaken, stringTaken, string24Taken, string8Taken, upToNul}
-use Rattle.core.specs.Checks.{lengthChecked, bodyChecked, sectionChecked, bodyStart, sectionStart, listChecked, parsedOf, unlessRefused}
+use Rattle.core_checks.specs.Checks.{lengthChecked, bodyChecked, sectionChecked, bodyStart, sectionStart, listChecked, parsedOf, unlessRefused}
 use Rattle.core.specs.declared.error.Refusal.the-variants.{UnexpectedEof}
 use Rattle.core.specs.declared.cursor.ByteOrder.the-variants.{Little}
-use Rattle.core.specs.declared.checks.Parsed.the-variants as Parseds
+use Rattle.core_checks.specs.declared.checks.Parsed.the-variants as Parseds
 use Rattle.unicode.specs.Utf8.{table, takes, rowOf, fits, sequenceBy, sequence, walk, wellFormed}
 use Rattle.ui2d.specs.Parts.{vector2Taken, vector3Taken}
-use Rattle.pane.specs.Pane.{paneTaken}
-use Rattle.pane.specs.Checks.{nameIll, textsChecked}
+use Rattle.pane_read.specs.Pane.{paneTaken}
+use Rattle.pane_checks.specs.Checks.{nameIll, textsChecked}
 use Rattle.pane.specs.Body.{paneRead, paneParsed}
 use Rattle.text_box.proofs.Examples.{At8, layout, text-box-at-8}
-use Rattle.alignment.specs.Alignment.{alignmentTaken}
+use Rattle.alignment_fields.specs.Alignment.{alignmentTaken}
 use Rattle.alignment.specs.Body.{alignmentRead}
-use Rattle.strip_kinds.specs.Kinds.{letterBytes, kindOf}
-use Rattle.strip_kinds.specs.Whole.{Lists, lists}
+use Rattle.strip_records.specs.Kinds.{letterBytes, kindOf}
+use Rattle.strip_records.specs.Whole.{Lists, lists}
 use Rattle.strip_kinds.specs.Body.{bodyRead}
 use Rattle.strip_read.specs.Read.{readStart, sizeBad, headerTaken, finished, readBody, byKind, orRefused, refusedWith, endedWith, readAt, readSection}
 use Rattle.strip_write.specs.Write.{sectionSize}
-use Rattle.strip_kinds.specs.declared.kind.Kind.the-variants.{Ali1}
+use Rattle.strip_records.specs.declared.kind.Kind.the-variants.{Ali1}
 use Rattle.strip_read.specs.declared.read.Section.the-variants as Sections
 
 abbrev pub zeros : ℕ → List ℕ

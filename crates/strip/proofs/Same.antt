@@ -8,18 +8,18 @@ use Rattle.core.specs.declared.cursor.ByteOrder.{ByteOrder}
 use Rattle.core.specs.declared.cursor.ByteOrder.the-variants.{Little}
 use Rattle.pane.proofs.Same as pane
 use Rattle.picture.specs.Body as picture-body
-use Rattle.picture.proofs.Same as picture
+use Rattle.picture_fields.proofs.Same as picture
 use Rattle.text_box.specs.Body as text-box-body
 use Rattle.text_box.proofs.Same as text-box
 use Rattle.window.specs.Body as window-body
 use Rattle.window.proofs.Same as window
 use Rattle.alignment.specs.Body as alignment
-use Rattle.strip_kinds.specs.Kinds.{letterBytes}
-use Rattle.strip_kinds.specs.Whole.{Whole}
+use Rattle.strip_records.specs.Kinds.{letterBytes}
+use Rattle.strip_records.specs.Whole.{Whole}
 use Rattle.strip.specs.Same.{Same, SameOwn, boxOf}
 use Rattle.strip_write.specs.Write.{bodyLength, encodeBody, sectionSize, section}
-use Rattle.strip_kinds.specs.declared.kind.Kind.{Kind}
-use Rattle.strip_kinds.specs.declared.kind.Kind.the-variants.{Pan1, Pic1, Txt1, Wnd1, Ali1}
+use Rattle.strip_records.specs.declared.kind.Kind.{Kind}
+use Rattle.strip_records.specs.declared.kind.Kind.the-variants.{Pan1, Pic1, Txt1, Wnd1, Ali1}
 
 own-both : (k : Kind) (x a b : Whole) → SameOwn k x a → SameOwn k x b → SameOwn k a b
 unfolding SameOwn

@@ -4,7 +4,7 @@ use Prim.Native.Nat.{ℕ, _*_, _/_}
 use mathlib.Core.List.{List, []}
 use lib.ListN.{take}
 use Rattle.pane.specs.Same.{SamePane}
-use Rattle.picture.specs.Same.{SamePicture}
+use Rattle.picture_fields.specs.Same.{SamePicture}
 use Rattle.text_box_caption.specs.Caption.{labelOf}
 use Rattle.text_box.specs.Same.{SameTextBox}
 use Rattle.text_box.specs.Same as text-box
@@ -13,10 +13,10 @@ use Rattle.text_box_read.specs.declared.Text.the-variants as text
 use Rattle.text_box_read.specs.declared.LineTable.{LineTable}
 use Rattle.text_box_read.specs.declared.LineTable.the-variants as line
 use Rattle.window.specs.Same.{SameWindow}
-use Rattle.strip_kinds.specs.Whole.{Lists, lists, noLists, Whole}
-use Rattle.strip_kinds.specs.declared.kind.Kind.{Kind}
-use Rattle.strip_kinds.specs.declared.kind.Kind.the-variants.{Pan1, Pic1, Txt1, Wnd1, Ali1}
-use Rattle.strip_kinds.specs.declared.record.Record.{Record}
+use Rattle.strip_records.specs.Whole.{Lists, lists, noLists, Whole}
+use Rattle.strip_records.specs.declared.kind.Kind.{Kind}
+use Rattle.strip_records.specs.declared.kind.Kind.the-variants.{Pan1, Pic1, Txt1, Wnd1, Ali1}
+use Rattle.strip_records.specs.declared.record.Record.{Record}
 
 -- how many units a text has, and how many numbers a line table
 abbrev pub unitNumbers : Text → ℕ → ℕ

@@ -5,9 +5,9 @@ use Prim.Native.Nat.{ℕ}
 use mathlib.Core.List.{List, [], _∷_}
 use lib.ListN.{length, take}
 use Rattle.core.specs.declared.cursor.ByteOrder.{ByteOrder}
-use Rattle.core.specs.declared.checks.Written.{Written}
-use Rattle.core.specs.declared.checks.Written.the-variants as Writtens
-use Rattle.strip_kinds.specs.Whole.{Lists, Full, Whole}
+use Rattle.core_checks.specs.declared.checks.Written.{Written}
+use Rattle.core_checks.specs.declared.checks.Written.the-variants as Writtens
+use Rattle.strip_records.specs.Whole.{Lists, Full, Whole}
 use Rattle.strip.specs.Same.{Same, readWhole}
 use Rattle.strip_read.specs.Read.{readSection, listsAfter}
 use Rattle.strip_write.specs.Write.{writeAnswer, writeOutput}

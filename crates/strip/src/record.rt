@@ -1,9 +1,9 @@
 // A pane of any kind, and what the types say of one with its lists and label.
-pub use strip_kinds::record::Record;
-pub use strip_kinds::record::blank_record;
+pub use strip_records::record::Record;
+pub use strip_records::record::blank_record;
 ghost use Prim.Native.Nat.{_^_, _<_};
-ghost use Rattle.strip_kinds.specs.Whole.{whole};
-ghost use Rattle.strip.specs.Typed.{Below, Typed, TypedRecord};
+ghost use Rattle.strip_records.specs.Whole.{whole};
+ghost use Rattle.strip_records.specs.Typed.{Below, Typed, TypedRecord};
 
 // A call of a function that does nothing brings what the type says of a lent list into a proof.
 
@@ -34,11 +34,11 @@ fn typed_u8s(list: &[u8])
 fn typed_record(r: Record)
     ensures { λ _. ⌜ TypedRecord r ⌝ }
 {
-    pane::typed_pane(r.base);
-    picture::typed_picture(r.picture);
+    pane_read::typed_pane(r.base);
+    picture_fields::typed_picture(r.picture);
     text_box::typed_text_box(r.text_box);
     window::typed_window(r.window);
-    alignment::typed_alignment(r.alignment);
+    alignment_fields::typed_alignment(r.alignment);
 }
 
 // Every record with its lists and label is one that Typed describes.

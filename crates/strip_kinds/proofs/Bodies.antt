@@ -7,10 +7,10 @@ use Rattle.core.specs.declared.cursor.Place.{Place}
 use Rattle.picture.specs.Body as picture
 use Rattle.text_box.specs.Body as text-box
 use Rattle.window.specs.Body as window
-use Rattle.strip_kinds.specs.Whole.{Lists, lists}
+use Rattle.strip_records.specs.Whole.{Lists, lists}
 use Rattle.strip_kinds.specs.Body.{bodyRead, bodyLists}
-use Rattle.strip_kinds.specs.declared.kind.Kind.{Kind}
-use Rattle.strip_kinds.specs.declared.kind.Kind.the-variants.{Pan1, Pic1, Txt1, Wnd1, Ali1}
+use Rattle.strip_records.specs.declared.kind.Kind.{Kind}
+use Rattle.strip_records.specs.declared.kind.Kind.the-variants.{Pan1, Pic1, Txt1, Wnd1, Ali1}
 use Rattle.strip_kinds.specs.declared.body.BodyRead.{BodyRead}
 
 module _ (order : ByteOrder) (s : List ℕ) (p : Place) (body : ℕ) (k : Kind) (b : BodyRead) where

@@ -13,9 +13,9 @@ use Rattle.window.specs.Body.{windowRead, readQuads, readFrames}
 use Rattle.window.specs.declared.body.WindowParsed.{WindowParsed}
 use Rattle.alignment.specs.Body.{alignmentRead}
 use Rattle.alignment.specs.declared.body.AlignmentParsed.{AlignmentParsed}
-use Rattle.strip_kinds.specs.Whole.{Lists, lists, pan1, pic1, txt1, wnd1, ali1}
-use Rattle.strip_kinds.specs.declared.kind.Kind.{Kind}
-use Rattle.strip_kinds.specs.declared.kind.Kind.the-variants.{Pan1, Pic1, Txt1, Wnd1, Ali1}
+use Rattle.strip_records.specs.Whole.{Lists, lists, pan1, pic1, txt1, wnd1, ali1}
+use Rattle.strip_records.specs.declared.kind.Kind.{Kind}
+use Rattle.strip_records.specs.declared.kind.Kind.the-variants.{Pan1, Pic1, Txt1, Wnd1, Ali1}
 use Rattle.strip_kinds.specs.declared.body.BodyRead.{BodyRead}
 
 -- the body of a kind at B, read as its body call reads it; what the other kinds have is blank

@@ -1,13 +1,13 @@
 // The body of a pane of any kind, read.
-use crate::kind::Kind;
-use crate::record::Record;
-use core::checks::Parsed;
 use core::cursor::ByteOrder;
 use core::cursor::Place;
+use core_checks::checks::Parsed;
+use strip_records::kind::Kind;
+use strip_records::record::Record;
 ghost use mathlib.Core.Path.{_≡_};
 ghost use Prim.Native.Nat.{_^_, _≤_, _<_};
 ghost use lib.ListN.{length};
-ghost use Rattle.strip_kinds.specs.Whole.{lists, Full};
+ghost use Rattle.strip_records.specs.Whole.{lists, Full};
 ghost use Rattle.strip_kinds.specs.Body.{bodyRead, bodyLists};
 ghost use Rattle.picture.specs.Body.{quadsRead};
 ghost use Rattle.text_box.specs.Body.{unitsAfter, linesAfter};
@@ -30,10 +30,10 @@ fn read_pan1(order: ByteOrder, data: &[u8], p: Place, body: usize) -> BodyRead
         record: Record {
             kind: Kind::Pan1,
             base,
-            picture: picture::blank_picture(),
+            picture: picture_fields::blank_picture(),
             text_box: text_box::blank_text_box(),
             window: window::blank_window(),
-            alignment: alignment::blank_alignment(),
+            alignment: alignment_fields::blank_alignment(),
         },
     }
 }
@@ -55,7 +55,7 @@ fn read_pic1(order: ByteOrder, data: &[u8], p: Place, body: usize, quads: &mut [
             picture,
             text_box: text_box::blank_text_box(),
             window: window::blank_window(),
-            alignment: alignment::blank_alignment(),
+            alignment: alignment_fields::blank_alignment(),
         },
     }
 }
@@ -82,10 +82,10 @@ fn read_txt1(
         record: Record {
             kind: Kind::Txt1,
             base,
-            picture: picture::blank_picture(),
+            picture: picture_fields::blank_picture(),
             text_box,
             window: window::blank_window(),
-            alignment: alignment::blank_alignment(),
+            alignment: alignment_fields::blank_alignment(),
         },
     }
 }
@@ -112,10 +112,10 @@ fn read_wnd1(
         record: Record {
             kind: Kind::Wnd1,
             base,
-            picture: picture::blank_picture(),
+            picture: picture_fields::blank_picture(),
             text_box: text_box::blank_text_box(),
             window,
-            alignment: alignment::blank_alignment(),
+            alignment: alignment_fields::blank_alignment(),
         },
     }
 }
@@ -133,7 +133,7 @@ fn read_ali1(order: ByteOrder, data: &[u8], p: Place, body: usize) -> BodyRead
         record: Record {
             kind: Kind::Ali1,
             base,
-            picture: picture::blank_picture(),
+            picture: picture_fields::blank_picture(),
             text_box: text_box::blank_text_box(),
             window: window::blank_window(),
             alignment,

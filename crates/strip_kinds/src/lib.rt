@@ -1,4 +1,5 @@
-// The kinds of panes, a pane of any kind, and the read of its body.
+// The body of a pane of any kind, read.
 pub mod body;
-pub mod kind;
-pub mod record;
+
+pub use strip_records::kind;
+pub use strip_records::record;

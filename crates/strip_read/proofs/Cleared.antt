@@ -8,8 +8,8 @@ use lib.Dec.{ltb}
 use borrow.Author.Tests.{ltb-false}
 use Rattle.core.specs.declared.cursor.Cursor.{Cursor}
 use Rattle.core.specs.declared.cursor.Place.the-variants.{At}
-use Rattle.core.proofs.Checked.{SectionOk, section-started, list-cleared}
-use Rattle.strip_kinds.specs.Whole.{Lists, Full}
+use Rattle.core_checks.proofs.Checked.{SectionOk, section-started, list-cleared}
+use Rattle.strip_records.specs.Whole.{Lists, Full}
 use Rattle.strip_read.specs.Read.{readStart, sizeBad}
 
 pub or-false : (a b : Bool) → (a || b) ≡ false → (a ≡ false) × (b ≡ false)

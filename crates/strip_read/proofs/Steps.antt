@@ -5,7 +5,7 @@ use mathlib.Core.List.{List}
 use lib.ListN.{length}
 use borrow.Author.Tests.{eq-eqb, ne-eqb}
 use Rattle.core.specs.Taken.{start, numberTaken}
-use Rattle.core.specs.Checks.{unlessRefused}
+use Rattle.core_checks.specs.Checks.{unlessRefused}
 use Rattle.core.specs.declared.error.Refusal.{Refusal}
 use Rattle.core.specs.declared.cursor.ByteOrder.{ByteOrder}
 use Rattle.core.specs.declared.cursor.ByteOrder.the-variants.{Little}
@@ -13,12 +13,12 @@ use Rattle.core.specs.declared.cursor.Cursor.{Cursor}
 use Rattle.core.specs.declared.cursor.Place.{Place}
 use Rattle.core.specs.declared.cursor.Place.the-variants.{At, Refused}
 use Rattle.core.proofs.Runs.{cleared}
-use Rattle.strip_kinds.specs.Kinds.{kindOf}
-use Rattle.strip_kinds.specs.Whole.{Lists}
+use Rattle.strip_records.specs.Kinds.{kindOf}
+use Rattle.strip_records.specs.Whole.{Lists}
 use Rattle.strip_kinds.specs.Body.{bodyRead, bodyLists}
 use Rattle.strip_read.specs.Read.{readStart, sizeBad, headerTaken, finished, readBody, byKind, listsByKind, orRefused, refusedWith, endedWith, passedWith, readAt, listsAt, readSection, listsAfter}
-use Rattle.strip_kinds.specs.declared.kind.Kind.{Kind}
-use Rattle.strip_kinds.specs.declared.kind.KindFound.the-variants.{Is, Other}
+use Rattle.strip_records.specs.declared.kind.Kind.{Kind}
+use Rattle.strip_records.specs.declared.kind.KindFound.the-variants.{Is, Other}
 use Rattle.strip_read.specs.declared.read.Header.{Header}
 use Rattle.strip_kinds.specs.declared.body.BodyRead.{BodyRead}
 use Rattle.strip_read.proofs.Cleared.{size-ok}

@@ -5,7 +5,7 @@ use mathlib.Core.List.{List}
 use lib.ListN.{length}
 use lib.Dec.{ltb, eqb}
 use Rattle.core.specs.Taken.{start, stopIf, u32Taken}
-use Rattle.core.specs.Checks.{sectionStart, listChecked, unlessRefused}
+use Rattle.core_checks.specs.Checks.{sectionStart, listChecked, unlessRefused}
 use Rattle.core.specs.declared.error.Refusal.{Refusal}
 use Rattle.core.specs.declared.error.Refusal.the-variants.{SectionSize}
 use Rattle.core.specs.declared.cursor.ByteOrder.{ByteOrder}
@@ -13,15 +13,15 @@ use Rattle.core.specs.declared.cursor.ByteOrder.the-variants.{Little}
 use Rattle.core.specs.declared.cursor.Place.{Place}
 use Rattle.core.specs.declared.cursor.Place.the-variants as Places
 use Rattle.core.specs.declared.cursor.U32Taken.{U32Taken}
-use Rattle.core.specs.declared.checks.Parsed.{Parsed}
-use Rattle.core.specs.declared.checks.Parsed.the-variants as Parseds
-use Rattle.strip_kinds.specs.Kinds.{kindOf}
-use Rattle.strip_kinds.specs.Whole.{Lists, blankRecord}
+use Rattle.core_checks.specs.declared.checks.Parsed.{Parsed}
+use Rattle.core_checks.specs.declared.checks.Parsed.the-variants as Parseds
+use Rattle.strip_records.specs.Kinds.{kindOf}
+use Rattle.strip_records.specs.Whole.{Lists, blankRecord}
 use Rattle.strip_kinds.specs.Body.{bodyRead, bodyLists}
-use Rattle.strip_kinds.specs.declared.kind.Kind.{Kind}
-use Rattle.strip_kinds.specs.declared.kind.KindFound.{KindFound}
-use Rattle.strip_kinds.specs.declared.kind.KindFound.the-variants.{Is, Other}
-use Rattle.strip_kinds.specs.declared.record.Record.{Record}
+use Rattle.strip_records.specs.declared.kind.Kind.{Kind}
+use Rattle.strip_records.specs.declared.kind.KindFound.{KindFound}
+use Rattle.strip_records.specs.declared.kind.KindFound.the-variants.{Is, Other}
+use Rattle.strip_records.specs.declared.record.Record.{Record}
 use Rattle.strip_read.specs.declared.read.Header.{Header}
 use Rattle.strip_kinds.specs.declared.body.BodyRead.{BodyRead}
 use Rattle.strip_read.specs.declared.read.SectionRead.{SectionRead}

@@ -1,21 +1,21 @@
 // The section read.
-use core::checks;
-use core::checks::Parsed;
 use core::cursor;
 use core::cursor::ByteOrder;
 use core::cursor::Cursor;
 use core::cursor::Place;
 use core::error::Refusal;
+use core_checks::checks;
+use core_checks::checks::Parsed;
 pub use strip_kinds::body::BodyRead;
 use strip_kinds::body::read_kind;
-use strip_kinds::kind::Kind;
-use strip_kinds::kind::KindFound;
-use strip_kinds::record::Record;
-use strip_kinds::record::blank_record;
+use strip_records::kind::Kind;
+use strip_records::kind::KindFound;
+use strip_records::record::Record;
+use strip_records::record::blank_record;
 ghost use mathlib.Core.Path.{_≡_};
 ghost use Prim.Native.Nat.{_+_, _≤_};
 ghost use lib.ListN.{length};
-ghost use Rattle.strip_kinds.specs.Whole.{lists, Full};
+ghost use Rattle.strip_records.specs.Whole.{lists, Full};
 ghost use Rattle.strip_read.specs.Read.{readStart, headerTaken, refusedWith, endedWith, passedWith, finished, readAt, listsAt, readSection, listsAfter};
 
 // What a section read answers: the place after the body read and the next section; the next section; the end; or why not.

@@ -5,25 +5,25 @@ use native.Mathlib.Omega.{arith}
 use mathlib.Core.List.{List}
 use Rattle.core.specs.Bytes.{padding}
 use Rattle.core.specs.Taken.{start}
-use Rattle.core.specs.Checks.{lengthChecked, sectionChecked}
+use Rattle.core_checks.specs.Checks.{lengthChecked, sectionChecked}
 use Rattle.core.specs.declared.cursor.Cursor.{Cursor}
 use Rattle.core.specs.declared.cursor.Place.{Place}
 use Rattle.core.specs.declared.cursor.Place.the-variants.{At}
-use Rattle.core.proofs.Checked.{SectionOk, length-cleared, section-cleared, end-cleared}
-use Rattle.pane.specs.Checks.{namesChecked, reserveChecked}
+use Rattle.core_checks.proofs.Checked.{SectionOk, length-cleared, section-cleared, end-cleared}
+use Rattle.pane_checks.specs.Checks.{namesChecked, reserveChecked}
 use Rattle.pane.proofs.Cleared.{Good, names-cleared, reserve-cleared}
-use Rattle.picture.specs.Picture.{GoodPicture}
+use Rattle.picture_fields.specs.Picture.{GoodPicture}
 use Rattle.picture.proofs.Cleared.{picture-cleared}
 use Rattle.text_box_read.specs.Parts.{labelPart}
 use Rattle.text_box_write.specs.Written.{Few}
 use Rattle.text_box.proofs.Cleared.{GoodLabel, GoodTextBox, label-length-cleared, label-name-cleared, text-box-early, text-box-cleared}
 use Rattle.window_write.specs.Write.{GoodWindow}
 use Rattle.window.proofs.Cleared.{window-cleared}
-use Rattle.strip_kinds.specs.Whole.{Whole}
+use Rattle.strip_records.specs.Whole.{Whole}
 use Rattle.strip_write.specs.Write.{ownLengthChecked, ownNameChecked, ownChecked, sectionSize, sectionEnd, writeChecked}
-use Rattle.strip_kinds.specs.declared.kind.Kind.{Kind}
-use Rattle.strip_kinds.specs.declared.kind.Kind.the-variants.{Pan1, Pic1, Txt1, Wnd1, Ali1}
-use Rattle.strip_kinds.specs.declared.record.Record.{Record}
+use Rattle.strip_records.specs.declared.kind.Kind.{Kind}
+use Rattle.strip_records.specs.declared.kind.Kind.the-variants.{Pan1, Pic1, Txt1, Wnd1, Ali1}
+use Rattle.strip_records.specs.declared.record.Record.{Record}
 
 -- what the kind's own checks leave: 1 and 9 of a label, then 11 to 15
 unfoldable pub OwnLength : Kind → Record → List ℕ → Type 0

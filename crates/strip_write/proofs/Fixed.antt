@@ -2,16 +2,16 @@
 use Prim.Native.Nat.{ℕ, _≤_}
 use mathlib.Core.Path.{_≡_, refl}
 use native.Mathlib.Omega.{arith}
-use Rattle.picture.specs.Picture.{pictureLength}
+use Rattle.picture_fields.specs.Picture.{pictureLength}
 use Rattle.picture.specs.Body as picture
 use Rattle.text_box_write.specs.Written.{textBoxLength}
 use Rattle.window_write.specs.Write.{windowLength}
 use Rattle.window.specs.Body as window
-use Rattle.strip_kinds.specs.Kinds.{lengthOf}
+use Rattle.strip_records.specs.Kinds.{lengthOf}
 use Rattle.strip_write.specs.Write.{bodyLength}
-use Rattle.strip_kinds.specs.Whole.{Whole}
-use Rattle.strip_kinds.specs.declared.kind.Kind.{Kind}
-use Rattle.strip_kinds.specs.declared.kind.Kind.the-variants.{Pan1, Pic1, Txt1, Wnd1, Ali1}
+use Rattle.strip_records.specs.Whole.{Whole}
+use Rattle.strip_records.specs.declared.kind.Kind.{Kind}
+use Rattle.strip_records.specs.declared.kind.Kind.the-variants.{Pan1, Pic1, Txt1, Wnd1, Ali1}
 
 pub fixed-least : (k : Kind) (body : ℕ) (w : Whole) → lengthOf k ≤ bodyLength k body w
 unfolding picture.bodyLength pictureLength textBoxLength window.bodyLength windowLength

@@ -8,10 +8,10 @@ use Rattle.picture.specs.Body as picture
 use Rattle.text_box.specs.Body as text-box
 use Rattle.window.specs.Body as window
 use Rattle.alignment.specs.Body as alignment
-use Rattle.strip_kinds.specs.Kinds.{letterBytes, lettersOf}
+use Rattle.strip_records.specs.Kinds.{letterBytes, lettersOf}
 use Rattle.strip_write.specs.Write.{sectionSize}
-use Rattle.strip_kinds.specs.declared.kind.Kind.{Kind}
-use Rattle.strip_kinds.specs.declared.kind.Kind.the-variants.{Pan1, Pic1, Txt1, Wnd1, Ali1}
+use Rattle.strip_records.specs.declared.kind.Kind.{Kind}
+use Rattle.strip_records.specs.declared.kind.Kind.the-variants.{Pan1, Pic1, Txt1, Wnd1, Ali1}
 
 pub letters-bytes : (k : Kind) → bytesOf Little 4 (lettersOf k) ≡ letterBytes k
 unfolding bytesOf le letterBytes

@@ -6,23 +6,23 @@ use mathlib.Core.List.{List, [], _++_, append-assoc}
 use lib.ListN.{length, replicate}
 use Rattle.core.specs.Bytes.{bytesOf, padding, Put}
 use Rattle.core.specs.Taken.{start}
-use Rattle.core.specs.Checks.{lengthChecked, sectionChecked, sectionStart, endChecked}
+use Rattle.core_checks.specs.Checks.{lengthChecked, sectionChecked, sectionStart, endChecked}
 use Rattle.core.specs.declared.error.Refusal.{Refusal}
-use Rattle.core.specs.declared.checks.Written.{Written}
-use Rattle.core.specs.declared.checks.Written.the-variants as Writtens
+use Rattle.core_checks.specs.declared.checks.Written.{Written}
+use Rattle.core_checks.specs.declared.checks.Written.the-variants as Writtens
 use Rattle.core.specs.declared.cursor.ByteOrder.{ByteOrder}
 use Rattle.core.specs.declared.cursor.Cursor.{Cursor}
 use Rattle.core.specs.declared.cursor.Place.{Place}
 use Rattle.core.specs.declared.cursor.Place.the-variants.{At, Refused}
-use Rattle.core.proofs.Checked.{end-cleared, end-stays, wrote, not-wrote}
-use Rattle.core.proofs.Puts.{_then_, put-as, put-at, put-none}
-use Rattle.pane.specs.Pane.{encodePane, Sound}
-use Rattle.pane.specs.Checks.{namesChecked, reserveChecked}
-use Rattle.pane.specs.declared.Pane.{Pane}
+use Rattle.core_checks.proofs.Checked.{end-cleared, end-stays, wrote, not-wrote}
+use Rattle.core_write.proofs.Puts.{_then_, put-as, put-at, put-none}
+use Rattle.pane_read.specs.Pane.{encodePane, Sound}
+use Rattle.pane_checks.specs.Checks.{namesChecked, reserveChecked}
+use Rattle.pane_read.specs.declared.Pane.{Pane}
 use Rattle.pane.proofs.Cleared.{sound}
-use Rattle.picture.specs.Picture.{pictureChecked, GoodPicture}
+use Rattle.picture_fields.specs.Picture.{pictureChecked, GoodPicture}
 use Rattle.picture.specs.Body as picture
-use Rattle.picture.specs.declared.PicturePane.{PicturePane}
+use Rattle.picture_fields.specs.declared.PicturePane.{PicturePane}
 use Rattle.text_box_read.specs.Parts.{labelPart}
 use Rattle.text_box_read.specs.declared.TextBoxPane.{TextBoxPane}
 use Rattle.text_box_write.specs.Written.{Small, textBoxLength}
@@ -33,12 +33,12 @@ use Rattle.window_read.specs.declared.WindowPane.{WindowPane}
 use Rattle.window_write.specs.Write.{windowChecked, windowLength, GoodWindow}
 use Rattle.window.specs.Body as window
 use Rattle.alignment.specs.Body as alignment
-use Rattle.alignment.specs.declared.AlignmentPane.{AlignmentPane}
-use Rattle.strip_kinds.specs.Kinds.{letterBytes}
-use Rattle.strip_kinds.specs.Whole.{Whole, whole, pan1, pic1, txt1, wnd1, ali1}
+use Rattle.alignment_fields.specs.declared.AlignmentPane.{AlignmentPane}
+use Rattle.strip_records.specs.Kinds.{letterBytes}
+use Rattle.strip_records.specs.Whole.{Whole, whole, pan1, pic1, txt1, wnd1, ali1}
 use Rattle.strip_write.specs.Write.{ownLengthChecked, ownNameChecked, ownChecked, bodyLength, encodeBody, sectionSize, sizeOf, section, writeChecked, writeAnswer, writeOutput}
-use Rattle.strip_kinds.specs.declared.kind.Kind.the-variants.{Pan1, Pic1, Txt1, Wnd1, Ali1}
-use Rattle.strip_kinds.specs.declared.record.Record.{Record}
+use Rattle.strip_records.specs.declared.kind.Kind.the-variants.{Pan1, Pic1, Txt1, Wnd1, Ali1}
+use Rattle.strip_records.specs.declared.record.Record.{Record}
 use Rattle.strip_write.proofs.Cleared.{OwnGood, beforeEnd, checks-cleared, write-cleared}
 use Rattle.strip_write.proofs.Steps.{room, size-parts}
 

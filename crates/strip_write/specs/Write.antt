@@ -4,14 +4,14 @@ use mathlib.Core.List.{List, _++_}
 use lib.ListN.{length, replicate}
 use Rattle.core.specs.Bytes.{bytesOf, padding, splice}
 use Rattle.core.specs.Taken.{start}
-use Rattle.core.specs.Checks.{lengthChecked, sectionChecked, endChecked, unlessRefused, writtenOf}
+use Rattle.core_checks.specs.Checks.{lengthChecked, sectionChecked, endChecked, unlessRefused, writtenOf}
 use Rattle.core.specs.declared.cursor.ByteOrder.{ByteOrder}
 use Rattle.core.specs.declared.cursor.Place.{Place}
 use Rattle.core.specs.declared.cursor.Place.the-variants.{At}
-use Rattle.core.specs.declared.checks.Written.{Written}
-use Rattle.pane.specs.Pane.{encodePane}
-use Rattle.pane.specs.Checks.{namesChecked, reserveChecked}
-use Rattle.picture.specs.Picture.{pictureChecked}
+use Rattle.core_checks.specs.declared.checks.Written.{Written}
+use Rattle.pane_read.specs.Pane.{encodePane}
+use Rattle.pane_checks.specs.Checks.{namesChecked, reserveChecked}
+use Rattle.picture_fields.specs.Picture.{pictureChecked}
 use Rattle.picture.specs.Body as picture
 use Rattle.text_box_read.specs.Parts.{labelPart}
 use Rattle.text_box.specs.Checks.{labelLengthChecked, labelNameChecked, textBoxChecked}
@@ -20,11 +20,11 @@ use Rattle.text_box.specs.Body as text-box
 use Rattle.window_write.specs.Write.{windowChecked}
 use Rattle.window.specs.Body as window
 use Rattle.alignment.specs.Body as alignment
-use Rattle.strip_kinds.specs.Kinds.{letterBytes}
-use Rattle.strip_kinds.specs.Whole.{Whole}
-use Rattle.strip_kinds.specs.declared.kind.Kind.{Kind}
-use Rattle.strip_kinds.specs.declared.kind.Kind.the-variants.{Pan1, Pic1, Txt1, Wnd1, Ali1}
-use Rattle.strip_kinds.specs.declared.record.Record.{Record}
+use Rattle.strip_records.specs.Kinds.{letterBytes}
+use Rattle.strip_records.specs.Whole.{Whole}
+use Rattle.strip_records.specs.declared.kind.Kind.{Kind}
+use Rattle.strip_records.specs.declared.kind.Kind.the-variants.{Pan1, Pic1, Txt1, Wnd1, Ali1}
+use Rattle.strip_records.specs.declared.record.Record.{Record}
 
 -- how many bytes the body of w has at B, and these bytes: the base and what its kind adds. Aligning goes by the absolute place
 abbrev pub bodyLength : Kind → ℕ → Whole → ℕ

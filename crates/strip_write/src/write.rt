@@ -1,17 +1,17 @@
 // The section write.
-use alignment::AlignmentPane;
-use core::checks;
-use core::checks::Written;
+use alignment_fields::AlignmentPane;
 use core::cursor::ByteOrder;
 use core::cursor::Cursor;
 use core::cursor::Place;
-use core::writer;
-use pane::Pane;
-use pane::checks::names_checked;
-use pane::checks::reserve_checked;
-use picture::PicturePane;
-use strip_kinds::kind::Kind;
-use strip_kinds::record::Record;
+use core_checks::checks;
+use core_checks::checks::Written;
+use core_write::writer;
+use pane_checks::checks::names_checked;
+use pane_checks::checks::reserve_checked;
+use pane_read::Pane;
+use picture_fields::PicturePane;
+use strip_records::kind::Kind;
+use strip_records::record::Record;
 use text_box::Label;
 use text_box::TextBoxPane;
 use text_box::checks::label_length_checked;
@@ -23,12 +23,12 @@ ghost use Prim.Native.Nat.{_+_, _^_, _≤_, _<_};
 ghost use lib.ListN.{length};
 ghost use Rattle.core.specs.Bytes.{bytesOf, Room, Put};
 ghost use Rattle.core.specs.Taken.{start};
-ghost use Rattle.core.specs.Checks.{lengthChecked, sectionChecked, sectionStart, endChecked};
-ghost use Rattle.pane.specs.Checks.{namesChecked, reserveChecked};
+ghost use Rattle.core_checks.specs.Checks.{lengthChecked, sectionChecked, sectionStart, endChecked};
+ghost use Rattle.pane_checks.specs.Checks.{namesChecked, reserveChecked};
 ghost use Rattle.text_box_read.specs.Parts.{labelPart};
 ghost use Rattle.text_box.specs.Checks.{labelLengthChecked, labelNameChecked};
-ghost use Rattle.strip_kinds.specs.Kinds.{letterBytes};
-ghost use Rattle.strip_kinds.specs.Whole.{whole, pan1, pic1, txt1, wnd1, ali1};
+ghost use Rattle.strip_records.specs.Kinds.{letterBytes};
+ghost use Rattle.strip_records.specs.Whole.{whole, pan1, pic1, txt1, wnd1, ali1};
 ghost use Rattle.strip_write.specs.Write.{sectionSize, writeAnswer, writeOutput};
 
 // Header, body and padding of a body of n bytes.
@@ -114,7 +114,7 @@ pub fn write_pic1(
 {
     let length = out.len();
     let p = base_checked(base, length, place);
-    let p = picture::picture_checked(p, quads);
+    let p = picture_fields::picture_checked(p, quads);
     match p {
         Place::Refused(why) => Written::Refused(why),
         Place::At(_) => {

@@ -11,7 +11,7 @@ use borrow.Author.Tests.{ne-eqb}
 use Rattle.core.specs.Bytes.{bytesOf, bytesOfAll, padding}
 use Rattle.core.specs.Taken.{Taken, advanced, moved, sought}
 use Rattle.core.specs.Lists.{numbersTaken, numbersAt}
-use Rattle.core.specs.Checks.{unlessRefused}
+use Rattle.core_checks.specs.Checks.{unlessRefused}
 use Rattle.core.specs.declared.cursor.ByteOrder.{ByteOrder}
 use Rattle.core.specs.declared.cursor.Cursor.{Cursor}
 use Rattle.core.specs.declared.cursor.Place.the-variants.{At}

@@ -11,7 +11,7 @@ use Rattle.core.specs.declared.cursor.Cursor.{Cursor}
 use Rattle.core.specs.declared.cursor.Place.{Place}
 use Rattle.core.specs.declared.cursor.Place.the-variants.{At}
 use Rattle.core.proofs.Runs.{cleared}
-use Rattle.core.proofs.Checked.{or-false, length-cleared, count-cleared}
+use Rattle.core_checks.proofs.Checked.{or-false, length-cleared, count-cleared}
 use Rattle.unicode.specs.Utf8.{wellFormed}
 use Rattle.unicode.specs.Utf16.{utf16Of, isWellFormed, wellFormed16}
 use Rattle.unicode.specs.declared.utf16.Utf16.{Utf16}

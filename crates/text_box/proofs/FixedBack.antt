@@ -16,13 +16,14 @@ use Rattle.flags.specs.declared.text.TextAlignment.{TextAlignment}
 use Rattle.flags.proofs.Enums.{alignment-back, alignment-le}
 use Rattle.flags.proofs.Fields.{origin-fit, origin-back, text-flags-fit, text-flags-back}
 use Rattle.ui2d.proofs.Parts.{length-vector2, length-color, vector2-at, color-at}
-use Rattle.text_box_read.specs.Fixed.{headTaken, fontTaken, shadowTaken, measureKind, measureVector}
+use Rattle.text_box_fixed.specs.Fixed.{headTaken, fontTaken, shadowTaken}
+use Rattle.text_box_read.specs.TextBox.{measureKind, measureVector}
 use Rattle.text_box_write.specs.Fixed.{encodeIndices, encodeStyle, encodeFont, encodeShadow, encodeFixed}
 use Rattle.text_box_read.specs.Typed.{TypedTextBox}
 use Rattle.text_box_read.specs.declared.TextBoxPane.{TextBoxPane}
-use Rattle.text_box_read.specs.declared.fixed.HeadTaken.{HeadTaken}
-use Rattle.text_box_read.specs.declared.fixed.FontTaken.{FontTaken}
-use Rattle.text_box_read.specs.declared.fixed.ShadowTaken.{ShadowTaken}
+use Rattle.text_box_fixed.specs.declared.fixed.HeadTaken.{HeadTaken}
+use Rattle.text_box_fixed.specs.declared.fixed.FontTaken.{FontTaken}
+use Rattle.text_box_fixed.specs.declared.fixed.ShadowTaken.{ShadowTaken}
 
 -- ---- lengths
 

@@ -4,7 +4,7 @@ use mathlib.Core.List.{List}
 use Prim.Native.Nat.{ℕ, _+_, _%_, _≤_}
 use native.Mathlib.Omega.{arith}
 use Rattle.core.specs.declared.cursor.ByteOrder.{ByteOrder}
-use Rattle.core.proofs.Padding.{padding-shift}
+use Rattle.core_write.proofs.Padding.{padding-shift}
 use Rattle.text_box_read.specs.declared.TextBoxPane.{TextBoxPane}
 use Rattle.text_box_read.specs.Parts.{placeOf, Part, absent, present, textPart, labelPart, linePart}
 use Rattle.text_box_write.specs.Written.{partOffset, labelWidth, lineWidth, textEnd, labelEnd, encodeLabel, encodeLines, partsEncoded, partsLength, encodeTextBox, textBoxLength}

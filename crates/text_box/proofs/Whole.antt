@@ -10,13 +10,13 @@ use Rattle.core.specs.declared.cursor.Cursor.{Cursor}
 use Rattle.core.specs.declared.cursor.Place.the-variants.{At}
 use Rattle.core.proofs.Numbers.{length-bytes}
 use Rattle.core.proofs.Cursors.{pos-advanced, advanced-zero}
-use Rattle.core.proofs.Padding.{padding-small}
+use Rattle.core_write.proofs.Padding.{padding-small}
 use Rattle.core.proofs.Back.{Holds, split, holds-fits, length-all}
 use Rattle.text_box_read.specs.declared.FontMeasure.{FontMeasure}
 use Rattle.text_box_read.specs.declared.FontMeasure.the-variants as measure
 use Rattle.text_box_read.specs.declared.TextBoxPane.{TextBoxPane}
 use Rattle.text_box_read.specs.declared.TextBoxTaken.{TextBoxTaken}
-use Rattle.text_box_read.specs.Fixed.{measureKind, measureVector}
+use Rattle.text_box_read.specs.TextBox.{measureKind, measureVector}
 use Rattle.text_box_write.specs.Fixed.{encodeFixed}
 use Rattle.text_box_read.specs.Parts.{placeOf, Part, absent, present, textPart, labelPart, linePart, perCharacterChecked}
 use Rattle.text_box_read.specs.TextBox.{fontMeasureOf, assembled, textBoxTaken}

@@ -5,16 +5,16 @@ use mathlib.Core.List.{List, _++_}
 use lib.ListN.{length}
 use Rattle.core.specs.Bytes.{splice}
 use Rattle.core.specs.Taken.{start, over}
-use Rattle.core.specs.Checks.{lengthChecked, bodyChecked, bodyStart, listChecked, endChecked, parsedOf, unlessRefused, writtenOf}
+use Rattle.core_checks.specs.Checks.{lengthChecked, bodyChecked, bodyStart, listChecked, endChecked, parsedOf, unlessRefused, writtenOf}
 use Rattle.core.specs.declared.error.Refusal.{Refusal}
 use Rattle.core.specs.declared.cursor.ByteOrder.{ByteOrder}
 use Rattle.core.specs.declared.cursor.Place.{Place}
 use Rattle.core.specs.declared.cursor.Place.the-variants.{At}
-use Rattle.core.specs.declared.checks.Parsed.the-variants as Parseds
-use Rattle.core.specs.declared.checks.Written.{Written}
-use Rattle.pane.specs.Pane.{paneTaken, blankPane, encodePane}
-use Rattle.pane.specs.Checks.{textsChecked, namesChecked, reserveChecked}
-use Rattle.pane.specs.declared.Pane.{Pane}
+use Rattle.core_checks.specs.declared.checks.Parsed.the-variants as Parseds
+use Rattle.core_checks.specs.declared.checks.Written.{Written}
+use Rattle.pane_read.specs.Pane.{paneTaken, blankPane, encodePane}
+use Rattle.pane_checks.specs.Checks.{textsChecked, namesChecked, reserveChecked}
+use Rattle.pane_read.specs.declared.Pane.{Pane}
 use Rattle.text_box_read.specs.Parts.{labelPart, textBoxUnits, textBoxLines}
 use Rattle.text_box_read.specs.TextBox.{textBoxTaken, blankTextBox}
 use Rattle.text_box_write.specs.Written.{encodeTextBox, textBoxLength}

@@ -5,7 +5,7 @@ use mathlib.Core.List.{List}
 use lib.ListN.{length}
 use lib.Dec.{eqb}
 use Rattle.core.specs.Taken.{stopIf, hasZero}
-use Rattle.core.specs.Checks.{lengthChecked, countChecked}
+use Rattle.core_checks.specs.Checks.{lengthChecked, countChecked}
 use Rattle.core.specs.declared.error.Refusal.the-variants.{IllFormedUtf8, BadName, TextLength, IllFormedUtf16, NoLineBit}
 use Rattle.core.specs.declared.cursor.Place.{Place}
 use Rattle.unicode.specs.Utf8.{wellFormed}

@@ -1,15 +1,15 @@
 // The body calls of a text box: any bytes are read or refused, any text box is written or refused.
 use crate::checks;
-use core::checks::Parsed;
-use core::checks::Written;
 use core::cursor::ByteOrder;
 use core::cursor::Cursor;
 use core::cursor::Place;
 use core::error::Refusal;
-use pane::Pane;
-use pane::checks::names_checked;
-use pane::checks::reserve_checked;
-use pane::checks::texts_checked;
+use core_checks::checks::Parsed;
+use core_checks::checks::Written;
+use pane_checks::checks::names_checked;
+use pane_checks::checks::reserve_checked;
+use pane_checks::checks::texts_checked;
+use pane_read::Pane;
 use text_box_read::TextBoxPane;
 use text_box_read::parts;
 use text_box_write::write;
@@ -17,8 +17,8 @@ ghost use mathlib.Core.Path.{_≡_};
 ghost use Prim.Native.Nat.{_+_, _^_, _≤_, _<_};
 ghost use lib.ListN.{length};
 ghost use Rattle.core.specs.Bytes.{Room, Put};
-ghost use Rattle.core.specs.Checks.{endChecked};
-ghost use Rattle.pane.specs.Pane.{Sound};
+ghost use Rattle.core_checks.specs.Checks.{endChecked};
+ghost use Rattle.pane_read.specs.Pane.{Sound};
 ghost use Rattle.text_box_write.specs.Written.{Small, textBoxLength};
 ghost use Rattle.text_box.specs.Body.{Blank, textBoxStart, Reads, encodeBody, textBoxWriteChecked, textBoxWritten, textBoxOutput};
 
@@ -34,7 +34,7 @@ fn refused(why: Refusal) -> TextBoxParsed
 {
     TextBoxParsed {
         answer: Parsed::Refused(why),
-        base: pane::blank_pane(),
+        base: pane_read::blank_pane(),
         text_box: text_box_read::blank_text_box(),
     }
 }
@@ -51,7 +51,7 @@ pub fn read(
     requires { ⌜ (8 ≤ place) × (place < 2 ^ 32) × (32767 ≤ length (now units)) × (510 ≤ length (now lines)) ⌝ }
     ensures { λ r. ⌜ Reads order (now («data» .entry)) p place (now (units .entry)) (now (lines .entry)) r (now (units .exit)) (now (lines .exit)) ⌝ }
 {
-    let taken = pane::take_pane(order, data, p);
+    let taken = pane_read::take_pane(order, data, p);
     let base = taken.pane;
     let p1 = taken.then;
     let own = text_box_read::measure_text_box(order, data, p1, place);
@@ -84,9 +84,9 @@ pub fn parse(
 ) -> TextBoxParsed
     ensures { λ r. ⌜ Reads order (now («data» .entry)) (textBoxStart (length (now («data» .entry))) (length (now (units .entry))) (length (now (lines .entry))) place) place (now (units .entry)) (now (lines .entry)) r (now (units .exit)) (now (lines .exit)) ⌝ }
 {
-    let p = core::checks::body_start(data.len(), place);
-    let p1 = core::checks::list_checked(p, 2, 32767, units.len());
-    let p2 = core::checks::list_checked(p1, 3, 510, lines.len());
+    let p = core_checks::checks::body_start(data.len(), place);
+    let p1 = core_checks::checks::list_checked(p, 2, 32767, units.len());
+    let p2 = core_checks::checks::list_checked(p1, 3, 510, lines.len());
     match p2 {
         Place::At(c) => read(order, data, Place::At(c), place, units, lines),
         Place::Refused(why) => refused(why),
@@ -109,7 +109,7 @@ fn end_checked(
     match p {
         Place::At(c) => {
             let width = write::text_box_length(place, x, units, lines, label);
-            core::checks::end_checked(Place::At(c), place, 76 + width, length)
+            core_checks::checks::end_checked(Place::At(c), place, 76 + width, length)
         }
         Place::Refused(why) => Place::Refused(why),
     }
@@ -129,9 +129,9 @@ fn write_checked(
 {
     text_box_read::typed_text_box(x);
     let name = x.label;
-    let p1 = core::checks::length_checked(Place::At(Cursor::start(place)), length);
+    let p1 = core_checks::checks::length_checked(Place::At(Cursor::start(place)), length);
     let p2 = checks::label_length_checked(p1, name, label);
-    let p3 = core::checks::body_checked(p2, length, place);
+    let p3 = core_checks::checks::body_checked(p2, length, place);
     let p4 = names_checked(p3, b);
     let p5 = checks::label_name_checked(p4, name, label);
     let p6 = reserve_checked(p5, b);

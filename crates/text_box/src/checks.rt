@@ -1,9 +1,9 @@
 // The checks of a text box: 7 of a label that was read; 1, 9, 11, 13, 14 and 15 of one to write. The lists and the label of an absent part are not looked at.
-use core::checks;
 use core::cursor;
 use core::cursor::Place;
 use core::error::Refusal;
 use core::text;
+use core_checks::checks;
 use text_box_read::Label;
 use text_box_read::LineTable;
 use text_box_read::Text;

@@ -10,7 +10,7 @@ use lib.ListN.{length}
 use lib.Dec.{leb}
 use Rattle.core.specs.Taken.{Taken, moved, advanced, sought, stopIf, numberTaken}
 use Rattle.core.specs.Lists.{numbersTaken, numbersAt}
-use Rattle.core.specs.Checks.{unlessRefused}
+use Rattle.core_checks.specs.Checks.{unlessRefused}
 use Rattle.core.specs.declared.error.Refusal.{Refusal}
 use Rattle.core.specs.declared.cursor.ByteOrder.{ByteOrder}
 use Rattle.core.specs.declared.cursor.Cursor.{Cursor}
@@ -24,7 +24,7 @@ use Rattle.ui2d.specs.Parts.{vector2Taken, colorTaken}
 use Rattle.text_box_read.specs.declared.Text.{Text}
 use Rattle.text_box_read.specs.declared.Text.the-variants as text
 use Rattle.text_box_read.specs.declared.parts.TextTaken.{TextTaken}
-use Rattle.text_box_read.specs.Fixed.{headTaken, fontTaken, shadowTaken}
+use Rattle.text_box_fixed.specs.Fixed.{headTaken, fontTaken, shadowTaken}
 use Rattle.text_box_read.specs.Parts.{textOf, textAt, textTaken, labelTaken, linesTaken, perCharacterChecked}
 use Rattle.text_box_read.specs.TextBox.{textBoxTaken}
 

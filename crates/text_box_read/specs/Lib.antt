@@ -1,4 +1,3 @@
-pub mod Fixed
 pub mod Parts
 pub mod TextBox
 pub mod Typed

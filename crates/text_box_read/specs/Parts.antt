@@ -8,7 +8,7 @@ use lib.Dec.{eqb}
 use Rattle.core.specs.Taken.{Taken, stopIf, sought, u8Taken, asCount}
 use Rattle.core.specs.Taken as core
 use Rattle.core.specs.Lists.{numbersTaken, numbersAt}
-use Rattle.core.specs.Checks.{unlessRefused}
+use Rattle.core_checks.specs.Checks.{unlessRefused}
 use Rattle.core.specs.declared.cursor.ByteOrder.{ByteOrder}
 use Rattle.core.specs.declared.cursor.Place.{Place}
 use Rattle.core.specs.declared.cursor.U8Taken.{U8Taken}

@@ -21,19 +21,28 @@ use Rattle.text_box_read.specs.declared.LineTable.{LineTable}
 use Rattle.text_box_read.specs.declared.LineTable.the-variants as lines
 use Rattle.text_box_read.specs.declared.TextBoxPane.{TextBoxPane}
 use Rattle.text_box_read.specs.declared.TextBoxTaken.{TextBoxTaken}
-use Rattle.text_box_read.specs.declared.fixed.HeadTaken.{HeadTaken}
-use Rattle.text_box_read.specs.declared.fixed.FontTaken.{FontTaken}
-use Rattle.text_box_read.specs.declared.fixed.ShadowTaken.{ShadowTaken}
+use Rattle.text_box_fixed.specs.declared.fixed.HeadTaken.{HeadTaken}
+use Rattle.text_box_fixed.specs.declared.fixed.FontTaken.{FontTaken}
+use Rattle.text_box_fixed.specs.declared.fixed.ShadowTaken.{ShadowTaken}
 use Rattle.text_box_read.specs.declared.parts.TextTaken.{TextTaken}
 use Rattle.text_box_read.specs.declared.parts.LabelTaken.{LabelTaken}
 use Rattle.text_box_read.specs.declared.parts.LinesTaken.{LinesTaken}
-use Rattle.text_box_read.specs.Fixed.{headTaken, fontTaken, shadowTaken}
+use Rattle.text_box_fixed.specs.Fixed.{headTaken, fontTaken, shadowTaken}
 use Rattle.text_box_read.specs.Parts.{textTaken, labelTaken, linesTaken, perCharacterChecked}
 
 -- flag bit 12 decides whether the two floats are a font size or a scale; the record holds one or the other, and no flag
 abbrev pub fontMeasureOf : FontMeasureKind → Vector2f → FontMeasure
 fontMeasureOf kind.Size v = measure.Size v
 fontMeasureOf kind.Scale v = measure.Scale v
+
+-- which of the two the font measure is, for flag bit 12, and its two floats
+abbrev pub measureKind : FontMeasure → FontMeasureKind
+measureKind (measure.Size v) = kind.Size
+measureKind (measure.Scale v) = kind.Scale
+
+abbrev pub measureVector : FontMeasure → Vector2f
+measureVector (measure.Size v) = v
+measureVector (measure.Scale v) = v
 
 -- the record of what was read
 unfoldable pub assembled : HeadTaken → FontTaken → ShadowTaken → Text → Label → LineTable → TextBoxPane

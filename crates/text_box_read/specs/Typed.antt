@@ -1,7 +1,7 @@
 -- What the types of the code guarantee of a text box.
 use Prim.Native.Nat.{_^_, _<_}
 use Rattle.ui2d.specs.Typed.{TypedVector2, TypedColor}
-use Rattle.text_box_read.specs.Fixed.{measureVector}
+use Rattle.text_box_read.specs.TextBox.{measureVector}
 use Rattle.text_box_read.specs.declared.FontMeasure.{FontMeasure}
 use Rattle.text_box_read.specs.declared.TextBoxPane.{TextBoxPane}
 

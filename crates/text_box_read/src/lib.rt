@@ -1,17 +1,17 @@
 // What a text box has beyond the base, and how it is read: 84 bytes, then its text, its label and its line table.
-pub mod fixed;
 pub mod parts;
 pub mod units;
 
 use core::cursor::ByteOrder;
 use core::cursor::Place;
-use fixed::FontTaken;
-use fixed::HeadTaken;
-use fixed::ShadowTaken;
 use flags::position::TextPosition;
 use flags::text::FontMeasureKind;
 use flags::text::TextAlignment;
 use flags::text::TextPaneFlags;
+use text_box_fixed::fixed;
+use text_box_fixed::fixed::FontTaken;
+use text_box_fixed::fixed::HeadTaken;
+use text_box_fixed::fixed::ShadowTaken;
 use ui2d::Binary32;
 use ui2d::Color4u8;
 use ui2d::Vector2f;

@@ -5,7 +5,7 @@ use Prim.Native.Nat.{ℕ, _+_, _≤_}
 use native.Mathlib.Omega.{arith}
 use Rattle.core.specs.Bytes.{Put}
 use Rattle.core.specs.declared.cursor.ByteOrder.{ByteOrder}
-use Rattle.core.proofs.Puts.{_then_, put-as}
+use Rattle.core_write.proofs.Puts.{_then_, put-as}
 use Rattle.text_box_read.specs.declared.TextBoxPane.{TextBoxPane}
 use Rattle.text_box_write.specs.declared.write.Layout.{Layout}
 use Rattle.text_box_write.specs.Fixed.{encodeFixed}

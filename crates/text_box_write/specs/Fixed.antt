@@ -6,7 +6,7 @@ use Rattle.core.specs.declared.cursor.ByteOrder.{ByteOrder}
 use Rattle.flags.specs.Enums.{alignmentNumber}
 use Rattle.flags.specs.Fields.{originNumber, textFlagsNumber}
 use Rattle.ui2d.specs.Parts.{encodeVector2, encodeColor}
-use Rattle.text_box_read.specs.Fixed.{measureKind, measureVector}
+use Rattle.text_box_read.specs.TextBox.{measureKind, measureVector}
 use Rattle.text_box_read.specs.declared.TextBoxPane.{TextBoxPane}
 
 unfoldable pub encodeIndices : ByteOrder → TextBoxPane → List ℕ

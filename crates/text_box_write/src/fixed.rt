@@ -1,6 +1,6 @@
 // The 84 fixed bytes of a text box after the base, written in four chunks.
 use core::cursor::ByteOrder;
-use core::writer;
+use core_write::writer;
 use flags::text::FontMeasureKind;
 use text_box_read::FontMeasure;
 use text_box_read::TextBoxPane;
@@ -9,7 +9,7 @@ ghost use mathlib.Core.Path.{_≡_};
 ghost use Prim.Native.Nat.{_+_, _≤_};
 ghost use lib.ListN.{length};
 ghost use Rattle.core.specs.Bytes.{Room, Put};
-ghost use Rattle.text_box_read.specs.Fixed.{measureKind, measureVector};
+ghost use Rattle.text_box_read.specs.TextBox.{measureKind, measureVector};
 ghost use Rattle.text_box_write.specs.Fixed.{encodeIndices, encodeStyle, encodeFont, encodeShadow, encodeFixed};
 
 fn measure_kind(m: FontMeasure) -> FontMeasureKind

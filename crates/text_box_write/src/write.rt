@@ -1,8 +1,7 @@
 // A text box written: offsets first, then the fixed bytes and the parts.
 use crate::fixed;
 use core::cursor::ByteOrder;
-use core::list;
-use core::writer;
+use core_write::writer;
 use text_box_read::Label;
 use text_box_read::LineTable;
 use text_box_read::Text;
@@ -137,7 +136,7 @@ fn put_text(order: ByteOrder, out: &mut [u8], p: usize, text: Text, units: &[u16
 {
     match text {
         Text::Absent => p,
-        Text::Present => list::put_u16s(order, out, p, units),
+        Text::Present => writer::put_u16s(order, out, p, units),
     }
 }
 

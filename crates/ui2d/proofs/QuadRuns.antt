@@ -9,7 +9,7 @@ use lib.Seq.{take-at, take-add, drop-append-add, drop-drop}
 use Rattle.core.specs.Bytes.{numberAt, bytesOfAll, splice}
 use Rattle.core.specs.Lists.{numbersAt}
 use Rattle.core.specs.declared.cursor.ByteOrder.{ByteOrder}
-use Rattle.core.proofs.Puts.{length-splice, splice-cut, all-append}
+use Rattle.core_write.proofs.Puts.{length-splice, splice-cut, all-append}
 use Rattle.core.proofs.Lists.{Filled, length-numbers}
 use Rattle.ui2d.specs.Parts.{encodeQuad}
 use Rattle.ui2d.specs.Quads.{quadBits, quadAt}

@@ -217,27 +217,27 @@ pub fn put_vector2(order: ByteOrder, out: &mut [u8], p: usize, v: Vector2f) -> u
     requires { ⌜ Room (now out) p 8 ⌝ }
     ensures { λ r. ⌜ Put (now (out .entry)) p 8 (encodeVector2 order v) r (now (out .exit)) ⌝ }
 {
-    let q = core::writer::put_u32(order, out, p, v.x.bits);
-    core::writer::put_u32(order, out, q, v.y.bits)
+    let q = core_write::writer::put_u32(order, out, p, v.x.bits);
+    core_write::writer::put_u32(order, out, q, v.y.bits)
 }
 
 pub fn put_vector3(order: ByteOrder, out: &mut [u8], p: usize, v: Vector3f) -> usize
     requires { ⌜ Room (now out) p 12 ⌝ }
     ensures { λ r. ⌜ Put (now (out .entry)) p 12 (encodeVector3 order v) r (now (out .exit)) ⌝ }
 {
-    let q = core::writer::put_u32(order, out, p, v.x.bits);
-    let q = core::writer::put_u32(order, out, q, v.y.bits);
-    core::writer::put_u32(order, out, q, v.z.bits)
+    let q = core_write::writer::put_u32(order, out, p, v.x.bits);
+    let q = core_write::writer::put_u32(order, out, q, v.y.bits);
+    core_write::writer::put_u32(order, out, q, v.z.bits)
 }
 
 pub fn put_color(order: ByteOrder, out: &mut [u8], p: usize, v: Color4u8) -> usize
     requires { ⌜ Room (now out) p 4 ⌝ }
     ensures { λ r. ⌜ Put (now (out .entry)) p 4 (encodeColor order v) r (now (out .exit)) ⌝ }
 {
-    let q = core::writer::put_u8(order, out, p, v.r);
-    let q = core::writer::put_u8(order, out, q, v.g);
-    let q = core::writer::put_u8(order, out, q, v.b);
-    core::writer::put_u8(order, out, q, v.a)
+    let q = core_write::writer::put_u8(order, out, p, v.r);
+    let q = core_write::writer::put_u8(order, out, q, v.g);
+    let q = core_write::writer::put_u8(order, out, q, v.b);
+    core_write::writer::put_u8(order, out, q, v.a)
 }
 
 pub fn put_colors(order: ByteOrder, out: &mut [u8], p: usize, v: [Color4u8; 4]) -> usize

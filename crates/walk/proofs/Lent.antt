@@ -13,7 +13,7 @@ use denote.RattleType.{RattleType}
 use denote.Builtin.{u16, u32}
 use denote.Ref.{RefT, now}
 use denote.Slice.{sliceVal, sliceTy, MutSlice, Room, finally}
-use Rattle.strip_kinds.specs.Whole.{Lists, lists}
+use Rattle.strip_records.specs.Whole.{Lists, lists}
 
 -- the types of quads, units, lines and frames
 abbrev pub listTypes : Lfts 5 → List RattleType

@@ -14,16 +14,16 @@ use Rattle.core.specs.declared.cursor.ByteOrder.the-variants.{Little}
 use Rattle.core.specs.declared.cursor.Cursor.{Cursor}
 use Rattle.core.specs.declared.cursor.Place.{Place}
 use Rattle.core.specs.declared.cursor.Place.the-variants as Places
-use Rattle.core.specs.declared.checks.Parsed.{Parsed}
-use Rattle.core.specs.declared.checks.Parsed.the-variants as Parseds
+use Rattle.core_checks.specs.declared.checks.Parsed.{Parsed}
+use Rattle.core_checks.specs.declared.checks.Parsed.the-variants as Parseds
 use Rattle.core.proofs.Runs.{cleared}
-use Rattle.strip_kinds.specs.Kinds.{kindOf}
+use Rattle.strip_records.specs.Kinds.{kindOf}
 use Rattle.strip_kinds.specs.Body.{bodyRead}
 use Rattle.strip_read.specs.Read.{sizeBad, headerTaken, refusedWith, endedWith, passedWith, finished, readBody, byKind, orRefused, readAt, readSection}
-use Rattle.strip_kinds.specs.Whole.{Lists}
-use Rattle.strip_kinds.specs.declared.kind.KindFound.{KindFound}
-use Rattle.strip_kinds.specs.declared.kind.KindFound.the-variants.{Is, Other}
-use Rattle.strip_kinds.specs.declared.record.Record.{Record}
+use Rattle.strip_records.specs.Whole.{Lists}
+use Rattle.strip_records.specs.declared.kind.KindFound.{KindFound}
+use Rattle.strip_records.specs.declared.kind.KindFound.the-variants.{Is, Other}
+use Rattle.strip_records.specs.declared.record.Record.{Record}
 use Rattle.strip_read.specs.declared.read.SectionRead.{SectionRead}
 use Rattle.strip_read.proofs.Cleared.{or-false, size-ok, read-started}
 use Rattle.walk.specs.Walk.{placeAfter, stepAt}

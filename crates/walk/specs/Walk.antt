@@ -3,7 +3,7 @@ use Prim.Native.Nat.{ℕ}
 use mathlib.Core.List.{List}
 use Rattle.core.specs.declared.cursor.ByteOrder.{ByteOrder}
 use Rattle.strip_read.specs.Read.{readSection}
-use Rattle.strip_kinds.specs.Whole.{Lists}
+use Rattle.strip_records.specs.Whole.{Lists}
 use Rattle.strip_read.specs.declared.read.Section.{Section}
 use Rattle.strip_read.specs.declared.read.Section.the-variants.{End, Passed, Pane, Refused}
 use Rattle.strip_read.specs.declared.read.SectionRead.{SectionRead}

@@ -1,9 +1,9 @@
 // The walk over a strip keeps the strip's bytes with its next place.
 use core::cursor::ByteOrder;
-use strip::read::Section;
-use strip::record::Record;
+use strip_read::read::Section;
+use strip_records::record::Record;
 ghost use mathlib.Core.Path.{_≡_};
-ghost use Rattle.strip_kinds.specs.Whole.{lists};
+ghost use Rattle.strip_records.specs.Whole.{lists};
 ghost use Rattle.strip_read.specs.Read.{listsAfter};
 ghost use Rattle.walk.specs.Walk.{placeAfter, stepAt};
 
@@ -42,7 +42,7 @@ fn step_at<'a, 'b, 'c, 'd, 'e>(
 ) -> Step
     ensures { λ r. ⌜ (r ≡ stepAt order (now («data» .entry)) place (lists (now (quads .entry)) (now (units .entry)) (now (lines .entry)) (now (frames .entry)))) × (lists (now (quads .exit)) (now (units .exit)) (now (lines .exit)) (now (frames .exit)) ≡ listsAfter order (now («data» .entry)) place (lists (now (quads .entry)) (now (units .entry)) (now (lines .entry)) (now (frames .entry)))) ⌝ }
 {
-    let read = strip::read::read_section(order, data, place, quads, units, lines, frames);
+    let read = strip_read::read::read_section(order, data, place, quads, units, lines, frames);
     let answer = read.answer;
     let record = read.record;
     let next = place_after(place, answer);

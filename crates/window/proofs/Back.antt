@@ -14,7 +14,7 @@ use Rattle.core.specs.declared.cursor.Place.{Place}
 use Rattle.core.specs.declared.cursor.Place.the-variants.{At}
 use Rattle.core.proofs.Cursors.{advanced-zero}
 use Rattle.core.proofs.Back.{Holds, Fit, holds-fits, length-all, cut}
-use Rattle.core.proofs.Padding.{padding-small}
+use Rattle.core_write.proofs.Padding.{padding-small}
 use Rattle.window_read.specs.Window.{headTaken, contentTaken, framesTaken, windowOf, windowTaken, windowQuads, windowFrames}
 use Rattle.window_write.specs.Write.{GoodWindow, contentPadding, tableOffset, encodeHead, encodeContent, frameOffsets, encodeFrames, encodeWindow}
 use Rattle.window.specs.Same.{SameWindow}

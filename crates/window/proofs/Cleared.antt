@@ -8,7 +8,7 @@ use Rattle.core.specs.declared.cursor.Cursor.{Cursor}
 use Rattle.core.specs.declared.cursor.Place.{Place}
 use Rattle.core.specs.declared.cursor.Place.the-variants.{At}
 use Rattle.core.proofs.Runs.{cleared}
-use Rattle.core.proofs.Checked.{count-cleared}
+use Rattle.core_checks.proofs.Checked.{count-cleared}
 use Rattle.window_write.specs.Write.{flipsChecked, windowChecked, GoodFlips, GoodWindow}
 
 flips-cleared : (p : Place) (i : ℕ) (l : List ℕ) (c : Cursor) → flipsChecked p i l ≡ At c → (p ≡ At c) × GoodFlips l

@@ -10,8 +10,8 @@ use Rattle.core.proofs.Numbers.{length-bytes}
 use Rattle.core.proofs.Back.{length-all}
 use Rattle.ui2d.proofs.Colors.{length-colors}
 use Rattle.window_write.specs.Write.{windowLength, encodeSides, encodeBorders, encodeHead, encodeContent, frameOffsets, encodeFrame, encodeFrames, encodeWindow}
-use Rattle.pane.specs.Pane.{Sound}
-use Rattle.pane.specs.declared.Pane.{Pane}
+use Rattle.pane_read.specs.Pane.{Sound}
+use Rattle.pane_read.specs.declared.Pane.{Pane}
 use Rattle.pane.proofs.Back.{length-pane}
 use Rattle.window.specs.Body.{bodyLength, encodeBody}
 use Rattle.window_read.specs.declared.WindowContent.{WindowContent}

@@ -6,9 +6,9 @@ use mathlib.Core.List.{List}
 use lib.ListN.{length}
 use Rattle.core.specs.Bytes.{padding}
 use Rattle.core.specs.declared.cursor.ByteOrder.{ByteOrder}
-use Rattle.core.proofs.Padding.{padding-shift}
+use Rattle.core_write.proofs.Padding.{padding-shift}
 use Rattle.window_write.specs.Write.{contentPadding, tableOffset, windowLength, encodeBorders, encodeHead, encodeContent, encodeWindow}
-use Rattle.pane.specs.declared.Pane.{Pane}
+use Rattle.pane_read.specs.declared.Pane.{Pane}
 use Rattle.window.specs.Body.{bodyLength, encodeBody}
 use Rattle.window.specs.Same.{SameWindow}
 use Rattle.window_read.specs.declared.WindowPane.{WindowPane}

@@ -1,14 +1,14 @@
 // The body calls of a window pane: any bytes are read or refused, any pane is written or refused.
-use core::checks;
-use core::checks::Parsed;
-use core::checks::Written;
 use core::cursor::ByteOrder;
 use core::cursor::Place;
 use core::error::Refusal;
-use pane::Pane;
-use pane::checks::names_checked;
-use pane::checks::reserve_checked;
-use pane::checks::texts_checked;
+use core_checks::checks;
+use core_checks::checks::Parsed;
+use core_checks::checks::Written;
+use pane_checks::checks::names_checked;
+use pane_checks::checks::reserve_checked;
+use pane_checks::checks::texts_checked;
+use pane_read::Pane;
 use window_read::WindowPane;
 use window_read::read::fill_window;
 use window_read::read::measure_window;
@@ -19,7 +19,7 @@ ghost use mathlib.Core.Path.{_≡_};
 ghost use Prim.Native.Nat.{_^_, _≤_, _<_};
 ghost use lib.ListN.{length};
 ghost use Rattle.core.specs.Bytes.{Room, Put};
-ghost use Rattle.pane.specs.Pane.{Sound};
+ghost use Rattle.pane_read.specs.Pane.{Sound};
 ghost use Rattle.window_write.specs.Write.{GoodWindow};
 ghost use Rattle.window.specs.Body.{Blank, windowRead, readQuads, readFrames, windowParsed, parsedQuads, parsedFrames, windowWriteChecked, bodyLength, encodeBody, windowWritten, windowOutput};
 
@@ -35,7 +35,7 @@ fn refused(why: Refusal) -> WindowParsed
 {
     WindowParsed {
         answer: Parsed::Refused(why),
-        base: pane::blank_pane(),
+        base: pane_read::blank_pane(),
         window: window_read::blank_window(),
     }
 }
@@ -55,7 +55,7 @@ pub fn read(
     ensures { λ _. ⌜ now (quads .exit) ≡ readQuads order (now («data» .entry)) p place (now (quads .entry)) ⌝ }
     ensures { λ _. ⌜ now (frames .exit) ≡ readFrames order (now («data» .entry)) p place (now (frames .entry)) ⌝ }
 {
-    let taken = pane::take_pane(order, data, p);
+    let taken = pane_read::take_pane(order, data, p);
     let base = taken.pane;
     let p1 = taken.then;
     let own = measure_window(order, data, p1, place);

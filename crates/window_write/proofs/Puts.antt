@@ -13,7 +13,7 @@ use Rattle.core.specs.declared.error.Refusal.the-variants.{BadFlip}
 use Rattle.core.specs.declared.cursor.ByteOrder.{ByteOrder}
 use Rattle.core.specs.declared.cursor.ByteOrder.the-variants.{Little}
 use Rattle.core.specs.declared.cursor.Place.{Place}
-use Rattle.core.proofs.Puts.{take-more, all-append}
+use Rattle.core_write.proofs.Puts.{take-more, all-append}
 use Rattle.window_write.specs.Write.{flipsChecked, frameOffsets, encodeFrame, encodeFrames}
 
 -- ---- a list by pairs

@@ -7,7 +7,7 @@ use lib.IntN.{ℤ}
 use lib.Dec.{ltb}
 use Rattle.core.specs.Bytes.{bytesOf, bytesOfAll, bitsOf, padding}
 use Rattle.core.specs.Taken.{stopIf}
-use Rattle.core.specs.Checks.{countChecked}
+use Rattle.core_checks.specs.Checks.{countChecked}
 use Rattle.core.specs.declared.error.Refusal.the-variants.{BadFlip}
 use Rattle.core.specs.declared.cursor.ByteOrder.{ByteOrder}
 use Rattle.core.specs.declared.cursor.Place.{Place}

@@ -1,10 +1,10 @@
 // A window's checks, its length and its bytes.
-use core::checks;
 use core::cursor;
 use core::cursor::ByteOrder;
 use core::cursor::Place;
 use core::error::Refusal;
-use core::writer;
+use core_checks::checks;
+use core_write::writer;
 use window_read::WindowContent;
 use window_read::WindowPane;
 ghost use mathlib.Core.Path.{_≡_};

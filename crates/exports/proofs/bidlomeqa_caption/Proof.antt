@@ -4,8 +4,8 @@ use Rattle.exports.proofs.bidlomeqa_caption.Statement.{statement}
 use Rattle.exports.proofs.bidlomeqa_caption.Tie as tie
 use Rattle.exports.proofs.bidlomeqa_caption.Reads as reads
 use Rattle.exports.proofs.bidlomeqa_caption.Lts as lts
-use Rattle.exports.proofs.answers.give.Reads as give-reads
-use Rattle.exports.proofs.calls.caption.Reads as caption-reads
+use Rattle.exports_answers.proofs.answers.give.Reads as give-reads
+use Rattle.exports_parts.proofs.parts.caption.Reads as caption-reads
 
 returns : tie.Need-returns
 returns c = part-short _ _ (c .if1 .taken)

@@ -4,8 +4,8 @@ use Rattle.exports.proofs.bidlomeqa_label.Statement.{statement}
 use Rattle.exports.proofs.bidlomeqa_label.Tie as tie
 use Rattle.exports.proofs.bidlomeqa_label.Reads as reads
 use Rattle.exports.proofs.bidlomeqa_label.Lts as lts
-use Rattle.exports.proofs.answers.give.Reads as give-reads
-use Rattle.exports.proofs.calls.label.Reads as label-reads
+use Rattle.exports_answers.proofs.answers.give.Reads as give-reads
+use Rattle.exports_parts.proofs.parts.label.Reads as label-reads
 
 returns : tie.Need-returns
 returns c = part-short _ _ (c .if1 .taken)

@@ -4,7 +4,7 @@ use Rattle.exports.proofs.bidlomeqa_read_body.Statement.{statement}
 use Rattle.exports.proofs.bidlomeqa_read_body.Tie as tie
 use Rattle.exports.proofs.bidlomeqa_read_body.Reads as reads
 use Rattle.exports.proofs.bidlomeqa_read_body.Lts as lts
-use Rattle.exports.proofs.answers.give.Reads as give-reads
+use Rattle.exports_answers.proofs.answers.give.Reads as give-reads
 use Rattle.exports_read.proofs.reads.read_body.Reads as read-body-reads
 
 returns : tie.Need-returns

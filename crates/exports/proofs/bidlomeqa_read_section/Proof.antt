@@ -4,7 +4,7 @@ use Rattle.exports.proofs.bidlomeqa_read_section.Statement.{statement}
 use Rattle.exports.proofs.bidlomeqa_read_section.Tie as tie
 use Rattle.exports.proofs.bidlomeqa_read_section.Reads as reads
 use Rattle.exports.proofs.bidlomeqa_read_section.Lts as lts
-use Rattle.exports.proofs.answers.give.Reads as give-reads
+use Rattle.exports_answers.proofs.answers.give.Reads as give-reads
 use Rattle.exports_read.proofs.reads.read_section.Reads as read-section-reads
 
 returns : tie.Need-returns

@@ -4,7 +4,7 @@ use Rattle.exports.proofs.bidlomeqa_write_section.Statement.{statement}
 use Rattle.exports.proofs.bidlomeqa_write_section.Tie as tie
 use Rattle.exports.proofs.bidlomeqa_write_section.Reads as reads
 use Rattle.exports.proofs.bidlomeqa_write_section.Lts as lts
-use Rattle.exports.proofs.answers.give.Reads as give-reads
+use Rattle.exports_answers.proofs.answers.give.Reads as give-reads
 use Rattle.exports.proofs.calls.write_section.Reads as write-section-reads
 
 returns : tie.Need-returns

@@ -9,8 +9,8 @@ use Rattle.page.proofs.letters.Statement.{statement}
 use Rattle.page.proofs.letters.Tie as tie
 use Rattle.page.proofs.letters.Reads as reads
 use Rattle.page.proofs.letters.Lts as lts
-use Rattle.core.proofs.writer.put_u32.Reads as put-u32-reads
-use Rattle.strip_kinds.proofs.kind.Kind.letters.Reads as letters-reads
+use Rattle.core_write.proofs.writer.put_u32.Reads as put-u32-reads
+use Rattle.strip_records.proofs.kind.Kind.letters.Reads as letters-reads
 
 -- four bytes put over four are what is left
 over-all : (v : ℕ) → splice (0 ∷ 0 ∷ 0 ∷ 0 ∷ []) 0 (bytesOf Little 4 v) ≡ bytesOf Little 4 v

@@ -5,7 +5,6 @@ use Rattle.page.proofs.print_first.Statement.{statement}
 use Rattle.page.proofs.print_first.Tie as tie
 use Rattle.page.proofs.print_first.Reads as reads
 use Rattle.page.proofs.print_first.Lts as lts
-use Rattle.page.proofs.print.Reads as print-reads
 
 slice-aggregate-print : tie.Need-slice-aggregate-print
 slice-aggregate-print c = sym (length-take-le _ _ (c .before .if1 .taken))

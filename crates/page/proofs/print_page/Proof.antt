@@ -1,7 +1,7 @@
 use mathlib.Core.Path.{_≡_}
 use Prim.Native.Nat.{_≤_, _-_}
 use lib.ListN.{length}
-use Rattle.strip_kinds.specs.Whole.{lists}
+use Rattle.strip_records.specs.Whole.{lists}
 use Rattle.walk.proofs.Steps.{step-less}
 use borrow.Author.Needs.{needs}
 use Rattle.page.proofs.print_page.Statement.{statement}
@@ -43,7 +43,7 @@ returns : tie.Need-returns Inv-loop μ-loop
 returns c = search needs
 
 loop-less : tie.Need-loop-less Inv-loop μ-loop
-loop-less c = step-less _ _ _ (lists _ _ _ _) _ (c .before .before .before .before .before .before .before .before .before .before .before .section-after .ensures .0) (c .if1 .left)
+loop-less c = step-less _ _ _ (lists _ _ _ _) _ (c .before .before .before .before .before .before .before .before .before .before .section-after .ensures .0) (c .if1 .left)
 
 loop-again : tie.Need-loop-again Inv-loop μ-loop
 loop-again c = search needs

@@ -1,15 +1,15 @@
 use mathlib.Core.Path.{refl, ap}
 use Rattle.core.specs.Bytes.{bytesOf}
-use Rattle.core.proofs.Puts.{_then_, put-as}
-use Rattle.pane.specs.Pane.{encodeHead}
+use Rattle.core_write.proofs.Puts.{_then_, put-as}
+use Rattle.pane_read.specs.Pane.{encodeHead}
 use borrow.Author.Needs.{needs}
 use Rattle.pane.proofs.put_head.Statement.{statement}
 use Rattle.pane.proofs.put_head.Tie as tie
 use Rattle.pane.proofs.put_head.Reads as reads
 use Rattle.pane.proofs.put_head.Lts as lts
-use Rattle.core.proofs.writer.put_string24.Reads as put-string24-reads
-use Rattle.core.proofs.writer.put_string8.Reads as put-string8-reads
-use Rattle.core.proofs.writer.put_u8.Reads as put-u8-reads
+use Rattle.core_write.proofs.writer.put_string24.Reads as put-string24-reads
+use Rattle.core_write.proofs.writer.put_string8.Reads as put-string8-reads
+use Rattle.core_write.proofs.writer.put_u8.Reads as put-u8-reads
 use Rattle.flags.proofs.pane.PaneFlags.encode.Reads as pane-PaneFlags-encode-reads
 use Rattle.flags.proofs.pane.PaneFlagsEx.encode.Reads as pane-PaneFlagsEx-encode-reads
 use Rattle.flags.proofs.position.BflytPosition.encode.Reads as position-BflytPosition-encode-reads

@@ -1,5 +1,5 @@
-use Rattle.core.proofs.Puts.{_then_}
-use Rattle.pane.specs.Pane.{encodePane}
+use Rattle.core_write.proofs.Puts.{_then_}
+use Rattle.pane_read.specs.Pane.{encodePane}
 use borrow.Author.Needs.{needs}
 use Rattle.pane.proofs.put_pane.Statement.{statement}
 use Rattle.pane.proofs.put_pane.Tie as tie

@@ -1,5 +1,5 @@
-use Rattle.core.proofs.Puts.{_then_}
-use Rattle.pane.specs.Pane.{encodeTransform}
+use Rattle.core_write.proofs.Puts.{_then_}
+use Rattle.pane_read.specs.Pane.{encodeTransform}
 use borrow.Author.Needs.{needs}
 use Rattle.pane.proofs.put_transform.Statement.{statement}
 use Rattle.pane.proofs.put_transform.Tie as tie

@@ -1,4 +1,4 @@
-use Rattle.text_box_read.specs.Fixed.{fixedTaken}
+use Rattle.text_box_fixed.specs.Fixed.{fixedTaken}
 use Rattle.text_box_read.specs.TextBox.{textBoxTaken}
 use borrow.Author.Needs.{needs}
 use Rattle.text_box_read.proofs.measure_text_box.Statement.{statement}

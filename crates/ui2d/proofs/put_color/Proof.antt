@@ -1,4 +1,4 @@
-use Rattle.core.proofs.Puts.{_then_}
+use Rattle.core_write.proofs.Puts.{_then_}
 use Rattle.ui2d.specs.Parts.{encodeColor}
 use borrow.Author.Needs.{needs}
 use Rattle.ui2d.proofs.put_color.Statement.{statement}

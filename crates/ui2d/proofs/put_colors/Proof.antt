@@ -1,6 +1,6 @@
 use mathlib.Core.Path.{_≡_, refl}
 use lib.ListN.{length}
-use Rattle.core.proofs.Puts.{_then_, put-as}
+use Rattle.core_write.proofs.Puts.{_then_, put-as}
 use Rattle.ui2d.proofs.Colors.{corner-bytes}
 use borrow.Author.Needs.{needs}
 use Rattle.ui2d.proofs.put_colors.Statement.{statement}

@@ -1,4 +1,4 @@
-use Rattle.core.proofs.Puts.{_then_}
+use Rattle.core_write.proofs.Puts.{_then_}
 use Rattle.ui2d.specs.Parts.{encodeVector2}
 use borrow.Author.Needs.{needs}
 use Rattle.ui2d.proofs.put_vector2.Statement.{statement}

@@ -5,11 +5,11 @@ use Rattle.exports.proofs.bodies.write.Tie as tie
 use Rattle.exports.proofs.bodies.write.Reads as reads
 use Rattle.exports.proofs.bodies.write.Lts as lts
 use Rattle.alignment.proofs.body.write.Reads as body-write-reads
-use Rattle.flat.proofs.ali1.alignment_of.Reads as alignment-of-reads
+use Rattle.flat_kinds.proofs.ali1.alignment_of.Reads as alignment-of-reads
 use Rattle.flat.proofs.base.base_of.Reads as base-of-reads
-use Rattle.flat.proofs.pic1.picture_of.Reads as picture-of-reads
-use Rattle.flat.proofs.txt1.text_box_of.Reads as text-box-of-reads
-use Rattle.flat.proofs.wnd1.window_of.Reads as window-of-reads
+use Rattle.flat_kinds.proofs.pic1.picture_of.Reads as picture-of-reads
+use Rattle.flat_kinds.proofs.txt1.text_box_of.Reads as text-box-of-reads
+use Rattle.flat_kinds.proofs.wnd1.window_of.Reads as window-of-reads
 use Rattle.pane.proofs.body.write.Reads as body-write-reads′
 use Rattle.picture.proofs.body.write.Reads as body-write-reads′′
 use Rattle.text_box.proofs.body.write.Reads as body-write-reads′′′

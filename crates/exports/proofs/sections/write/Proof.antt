@@ -4,11 +4,11 @@ use Rattle.exports.proofs.sections.write.Statement.{statement}
 use Rattle.exports.proofs.sections.write.Tie as tie
 use Rattle.exports.proofs.sections.write.Reads as reads
 use Rattle.exports.proofs.sections.write.Lts as lts
-use Rattle.flat.proofs.ali1.alignment_of.Reads as alignment-of-reads
+use Rattle.flat_kinds.proofs.ali1.alignment_of.Reads as alignment-of-reads
 use Rattle.flat.proofs.base.base_of.Reads as base-of-reads
-use Rattle.flat.proofs.pic1.picture_of.Reads as picture-of-reads
-use Rattle.flat.proofs.txt1.text_box_of.Reads as text-box-of-reads
-use Rattle.flat.proofs.wnd1.window_of.Reads as window-of-reads
+use Rattle.flat_kinds.proofs.pic1.picture_of.Reads as picture-of-reads
+use Rattle.flat_kinds.proofs.txt1.text_box_of.Reads as text-box-of-reads
+use Rattle.flat_kinds.proofs.wnd1.window_of.Reads as window-of-reads
 use Rattle.strip_write.proofs.write.write_ali1.Reads as write-ali1-reads
 use Rattle.strip_write.proofs.write.write_pan1.Reads as write-pan1-reads
 use Rattle.strip_write.proofs.write.write_pic1.Reads as write-pic1-reads

@@ -4,9 +4,9 @@ use Rattle.exports_read.proofs.deliver.deliver_txt1.Statement.{statemen
 use Rattle.exports_read.proofs.deliver.deliver_txt1.Tie as tie
 use Rattle.exports_read.proofs.deliver.deliver_txt1.Reads as reads
 use Rattle.exports_read.proofs.deliver.deliver_txt1.Lts as lts
-use Rattle.exports_read.proofs.answers.refused.Reads as refused-reads
-use Rattle.exports_read.proofs.answers.section.Reads as section-reads
-use Rattle.flat.proofs.records.put_txt1.Reads as put-txt1-reads
+use Rattle.exports_answers.proofs.answers.refused.Reads as refused-reads
+use Rattle.exports_answers.proofs.answers.section.Reads as section-reads
+use Rattle.flat_records.proofs.records.put_txt1.Reads as put-txt1-reads
 
 enum-known-x : tie.Need-enum-known-x
 enum-known-x c = search needs

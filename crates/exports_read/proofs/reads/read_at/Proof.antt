@@ -1,6 +1,6 @@
 use mathlib.Core.Path.{refl, sym, _∙_}
 use native.Mathlib.Omega.{arith}
-use Rattle.strip_kinds.specs.Whole.{lists}
+use Rattle.strip_records.specs.Whole.{lists}
 use Rattle.strip_read.specs.Read.{readBody}
 use Rattle.strip_read.proofs.Steps.{header-refused, header-size, header-kind, header-other}
 use Rattle.exports_read.proofs.Reading.{refused-so, passed-so, delivered-on}
@@ -9,10 +9,10 @@ use Rattle.exports_read.proofs.reads.read_at.Statement.{statement}
 use Rattle.exports_read.proofs.reads.read_at.Tie as tie
 use Rattle.exports_read.proofs.reads.read_at.Reads as reads
 use Rattle.exports_read.proofs.reads.read_at.Lts as lts
-use Rattle.exports_read.proofs.answers.refused.Reads as refused-reads
-use Rattle.exports_read.proofs.answers.section.Reads as section-reads
+use Rattle.exports_answers.proofs.answers.refused.Reads as refused-reads
+use Rattle.exports_answers.proofs.answers.section.Reads as section-reads
 use Rattle.exports_read.proofs.sections.read_kind.Reads as read-kind-reads
-use Rattle.strip_kinds.proofs.kind.Kind.of_letters.Reads as of-letters-reads
+use Rattle.strip_records.proofs.kind.Kind.of_letters.Reads as of-letters-reads
 use Rattle.strip_read.proofs.read.take_header.Reads as take-header-reads
 
 take-header-requires : tie.Need-take-header-requires

@@ -4,10 +4,10 @@ use Rattle.exports_read.proofs.reads.read_body.Statement.{statement}
 use Rattle.exports_read.proofs.reads.read_body.Tie as tie
 use Rattle.exports_read.proofs.reads.read_body.Reads as reads
 use Rattle.exports_read.proofs.reads.read_body.Lts as lts
-use Rattle.exports_read.proofs.answers.bad_word.Reads as bad-word-reads
-use Rattle.exports_read.proofs.answers.short_record.Reads as short-record-reads
+use Rattle.exports_answers.proofs.answers.bad_word.Reads as bad-word-reads
+use Rattle.exports_answers.proofs.answers.short_record.Reads as short-record-reads
 use Rattle.exports_read.proofs.bodies.parse_kind.Reads as parse-kind-reads
-use Rattle.flat.proofs.records.kind_of.Reads as kind-of-reads
+use Rattle.flat_records.proofs.records.kind_of.Reads as kind-of-reads
 
 short-record-requires : tie.Need-short-record-requires
 short-record-requires c κs = search needs

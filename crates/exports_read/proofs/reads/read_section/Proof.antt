@@ -1,5 +1,5 @@
 use mathlib.Core.Path.{sym, _∙_}
-use Rattle.strip_kinds.specs.Whole.{lists}
+use Rattle.strip_records.specs.Whole.{lists}
 use Rattle.strip_read.proofs.Cleared.{read-started}
 use Rattle.strip_read.proofs.Steps.{read-refused, read-end, read-on}
 use Rattle.exports_read.proofs.Reading.{refused-so, ended-so, delivered-on, section-short, section-read}
@@ -8,9 +8,9 @@ use Rattle.exports_read.proofs.reads.read_section.Statement.{statement}
 use Rattle.exports_read.proofs.reads.read_section.Tie as tie
 use Rattle.exports_read.proofs.reads.read_section.Reads as reads
 use Rattle.exports_read.proofs.reads.read_section.Lts as lts
-use Rattle.exports_read.proofs.answers.refused.Reads as refused-reads
-use Rattle.exports_read.proofs.answers.section.Reads as section-reads
-use Rattle.exports_read.proofs.answers.short_record.Reads as short-record-reads
+use Rattle.exports_answers.proofs.answers.refused.Reads as refused-reads
+use Rattle.exports_answers.proofs.answers.section.Reads as section-reads
+use Rattle.exports_answers.proofs.answers.short_record.Reads as short-record-reads
 use Rattle.exports_read.proofs.reads.read_at.Reads as read-at-reads
 use Rattle.strip_read.proofs.read.read_start.Reads as read-start-reads
 

@@ -5,7 +5,7 @@ use Rattle.pane.proofs.body.parse.Statement.{statement}
 use Rattle.pane.proofs.body.parse.Tie as tie
 use Rattle.pane.proofs.body.parse.Reads as reads
 use Rattle.pane.proofs.body.parse.Lts as lts
-use Rattle.core.proofs.checks.body_start.Reads as body-start-reads
+use Rattle.core_checks.proofs.checks.body_start.Reads as body-start-reads
 use Rattle.pane.proofs.body.read.Reads as read-reads
 use Rattle.pane.proofs.body.refused.Reads as refused-reads
 

@@ -5,8 +5,8 @@ use Rattle.pane.proofs.body.read.Tie as tie
 use Rattle.pane.proofs.body.read.Reads as reads
 use Rattle.pane.proofs.body.read.Lts as lts
 use Rattle.pane.proofs.body.refused.Reads as refused-reads
-use Rattle.pane.proofs.checks.texts_checked.Reads as texts-checked-reads
-use Rattle.pane.proofs.take_pane.Reads as take-pane-reads
+use Rattle.pane_checks.proofs.checks.texts_checked.Reads as texts-checked-reads
+use Rattle.pane_read.proofs.take_pane.Reads as take-pane-reads
 
 take-pane-requires : tie.Need-take-pane-requires
 take-pane-requires c κs = search needs

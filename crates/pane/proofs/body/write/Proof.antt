@@ -1,5 +1,5 @@
 use mathlib.Core.Path.{sym, _∙_}
-use Rattle.core.proofs.Checked.{wrote, not-wrote}
+use Rattle.core_checks.proofs.Checked.{wrote, not-wrote}
 use Rattle.pane.specs.Body.{paneWritten, paneOutput}
 use Rattle.pane.proofs.Cleared.{write-cleared, sound}
 use borrow.Author.Needs.{needs}

@@ -6,10 +6,10 @@ use Rattle.pane.proofs.body.write_checked.Statement.{statement}
 use Rattle.pane.proofs.body.write_checked.Tie as tie
 use Rattle.pane.proofs.body.write_checked.Reads as reads
 use Rattle.pane.proofs.body.write_checked.Lts as lts
-use Rattle.core.proofs.checks.body_start.Reads as body-start-reads
-use Rattle.core.proofs.checks.end_checked.Reads as end-checked-reads
-use Rattle.pane.proofs.checks.names_checked.Reads as names-checked-reads
-use Rattle.pane.proofs.checks.reserve_checked.Reads as reserve-checked-reads
+use Rattle.core_checks.proofs.checks.body_start.Reads as body-start-reads
+use Rattle.core_checks.proofs.checks.end_checked.Reads as end-checked-reads
+use Rattle.pane_checks.proofs.checks.names_checked.Reads as names-checked-reads
+use Rattle.pane_checks.proofs.checks.reserve_checked.Reads as reserve-checked-reads
 
 body-start-requires : tie.Need-body-start-requires
 body-start-requires c κs = search needs

@@ -1,4 +1,4 @@
-use Rattle.core.proofs.Puts.{_then_}
+use Rattle.core_write.proofs.Puts.{_then_}
 use Rattle.picture.specs.Body.{encodeBody, bodyLength}
 use native.Mathlib.Omega.{arith}
 use borrow.Author.Needs.{needs}

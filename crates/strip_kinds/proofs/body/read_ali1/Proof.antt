@@ -5,7 +5,7 @@ use Rattle.strip_kinds.proofs.body.read_ali1.Tie as tie
 use Rattle.strip_kinds.proofs.body.read_ali1.Reads as reads
 use Rattle.strip_kinds.proofs.body.read_ali1.Lts as lts
 use Rattle.alignment.proofs.body.read.Reads as read-reads
-use Rattle.picture.proofs.blank_picture.Reads as blank-picture-reads
+use Rattle.picture_fields.proofs.blank_picture.Reads as blank-picture-reads
 use Rattle.text_box_read.proofs.blank_text_box.Reads as blank-text-box-reads
 use Rattle.window_read.proofs.blank_window.Reads as blank-window-reads
 

@@ -4,7 +4,7 @@ use Rattle.strip_kinds.proofs.body.read_pic1.Statement.{statement}
 use Rattle.strip_kinds.proofs.body.read_pic1.Tie as tie
 use Rattle.strip_kinds.proofs.body.read_pic1.Reads as reads
 use Rattle.strip_kinds.proofs.body.read_pic1.Lts as lts
-use Rattle.alignment.proofs.blank_alignment.Reads as blank-alignment-reads
+use Rattle.alignment_fields.proofs.blank_alignment.Reads as blank-alignment-reads
 use Rattle.picture.proofs.body.read.Reads as read-reads
 use Rattle.text_box_read.proofs.blank_text_box.Reads as blank-text-box-reads
 use Rattle.window_read.proofs.blank_window.Reads as blank-window-reads

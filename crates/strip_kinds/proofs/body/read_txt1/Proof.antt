@@ -4,8 +4,8 @@ use Rattle.strip_kinds.proofs.body.read_txt1.Statement.{statement}
 use Rattle.strip_kinds.proofs.body.read_txt1.Tie as tie
 use Rattle.strip_kinds.proofs.body.read_txt1.Reads as reads
 use Rattle.strip_kinds.proofs.body.read_txt1.Lts as lts
-use Rattle.alignment.proofs.blank_alignment.Reads as blank-alignment-reads
-use Rattle.picture.proofs.blank_picture.Reads as blank-picture-reads
+use Rattle.alignment_fields.proofs.blank_alignment.Reads as blank-alignment-reads
+use Rattle.picture_fields.proofs.blank_picture.Reads as blank-picture-reads
 use Rattle.text_box.proofs.body.read.Reads as read-reads
 use Rattle.window_read.proofs.blank_window.Reads as blank-window-reads
 

@@ -1,5 +1,5 @@
 use mathlib.Core.Path.{sym, _∙_}
-use Rattle.strip_kinds.specs.Whole.{lists}
+use Rattle.strip_records.specs.Whole.{lists}
 use Rattle.strip_read.proofs.Steps.{header-refused, header-size, header-kind, header-other}
 use native.Mathlib.Omega.{arith}
 use borrow.Author.Needs.{needs}
@@ -7,7 +7,7 @@ use Rattle.strip_read.proofs.read.read_at.Statement.{statement}
 use Rattle.strip_read.proofs.read.read_at.Tie as tie
 use Rattle.strip_read.proofs.read.read_at.Reads as reads
 use Rattle.strip_read.proofs.read.read_at.Lts as lts
-use Rattle.strip_kinds.proofs.kind.Kind.of_letters.Reads as of-letters-reads
+use Rattle.strip_records.proofs.kind.Kind.of_letters.Reads as of-letters-reads
 use Rattle.strip_read.proofs.read.finish.Reads as finish-reads
 use Rattle.strip_read.proofs.read.passed.Reads as passed-reads
 use Rattle.strip_kinds.proofs.body.read_kind.Reads as read-kind-reads

@@ -1,5 +1,5 @@
 use mathlib.Core.Path.{refl, sym, _∙_}
-use Rattle.strip_kinds.specs.Whole.{lists}
+use Rattle.strip_records.specs.Whole.{lists}
 use Rattle.strip_read.proofs.Cleared.{read-started}
 use Rattle.strip_read.proofs.Steps.{read-refused, read-end, read-on}
 use borrow.Author.Needs.{needs}

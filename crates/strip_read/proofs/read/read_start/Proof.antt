@@ -4,8 +4,8 @@ use Rattle.strip_read.proofs.read.read_start.Statement.{statement}
 use Rattle.strip_read.proofs.read.read_start.Tie as tie
 use Rattle.strip_read.proofs.read.read_start.Reads as reads
 use Rattle.strip_read.proofs.read.read_start.Lts as lts
-use Rattle.core.proofs.checks.list_checked.Reads as list-checked-reads
-use Rattle.core.proofs.checks.section_start.Reads as section-start-reads
+use Rattle.core_checks.proofs.checks.list_checked.Reads as list-checked-reads
+use Rattle.core_checks.proofs.checks.section_start.Reads as section-start-reads
 
 section-start-requires : tie.Need-section-start-requires
 section-start-requires c κs = search needs

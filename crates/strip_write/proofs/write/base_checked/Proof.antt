@@ -3,9 +3,9 @@ use Rattle.strip_write.proofs.write.base_checked.Statement.{statement}
 use Rattle.strip_write.proofs.write.base_checked.Tie as tie
 use Rattle.strip_write.proofs.write.base_checked.Reads as reads
 use Rattle.strip_write.proofs.write.base_checked.Lts as lts
-use Rattle.core.proofs.checks.section_start.Reads as section-start-reads
-use Rattle.pane.proofs.checks.names_checked.Reads as names-checked-reads
-use Rattle.pane.proofs.checks.reserve_checked.Reads as reserve-checked-reads
+use Rattle.core_checks.proofs.checks.section_start.Reads as section-start-reads
+use Rattle.pane_checks.proofs.checks.names_checked.Reads as names-checked-reads
+use Rattle.pane_checks.proofs.checks.reserve_checked.Reads as reserve-checked-reads
 
 section-start-requires : tie.Need-section-start-requires
 section-start-requires c κs = search needs

@@ -5,7 +5,7 @@ use Rattle.strip_write.proofs.write.end_checked.Statement.{statement}
 use Rattle.strip_write.proofs.write.end_checked.Tie as tie
 use Rattle.strip_write.proofs.write.end_checked.Reads as reads
 use Rattle.strip_write.proofs.write.end_checked.Lts as lts
-use Rattle.core.proofs.checks.end_checked.Reads as end-checked-reads
+use Rattle.core_checks.proofs.checks.end_checked.Reads as end-checked-reads
 use Rattle.strip_write.proofs.write.section_size.Reads as section-size-reads
 
 section-size-requires : tie.Need-section-size-requires

@@ -1,6 +1,6 @@
 use mathlib.Core.Path.{refl, ap, _∙_}
 use Rattle.core.specs.Bytes.{bytesOf}
-use Rattle.core.proofs.Puts.{_then_, put-as}
+use Rattle.core_write.proofs.Puts.{_then_, put-as}
 use Rattle.strip_write.proofs.Steps.{letters-bytes}
 use Rattle.strip_write.proofs.Cleared.{size-bound}
 use native.Mathlib.Omega.{arith}
@@ -9,8 +9,8 @@ use Rattle.strip_write.proofs.write.put_header.Statement.{statement}
 use Rattle.strip_write.proofs.write.put_header.Tie as tie
 use Rattle.strip_write.proofs.write.put_header.Reads as reads
 use Rattle.strip_write.proofs.write.put_header.Lts as lts
-use Rattle.core.proofs.writer.put_u32.Reads as put-u32-reads
-use Rattle.strip_kinds.proofs.kind.Kind.letters.Reads as letters-reads
+use Rattle.core_write.proofs.writer.put_u32.Reads as put-u32-reads
+use Rattle.strip_records.proofs.kind.Kind.letters.Reads as letters-reads
 use Rattle.strip_write.proofs.write.section_size.Reads as section-size-reads
 
 letters-requires : tie.Need-letters-requires

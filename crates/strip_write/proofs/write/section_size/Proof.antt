@@ -6,7 +6,7 @@ use Rattle.strip_write.proofs.write.section_size.Statement.{statement}
 use Rattle.strip_write.proofs.write.section_size.Tie as tie
 use Rattle.strip_write.proofs.write.section_size.Reads as reads
 use Rattle.strip_write.proofs.write.section_size.Lts as lts
-use Rattle.core.proofs.writer.padding_at.Reads as padding-at-reads
+use Rattle.core_write.proofs.writer.padding_at.Reads as padding-at-reads
 
 add-result : tie.Need-add-result
 add-result c = search needs

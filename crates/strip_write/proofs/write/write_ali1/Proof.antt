@@ -1,6 +1,6 @@
 use mathlib.Core.Path.{refl}
 use mathlib.Core.List.{[]}
-use Rattle.strip_kinds.specs.Whole.{whole, ali1}
+use Rattle.strip_records.specs.Whole.{whole, ali1}
 use Rattle.strip_write.proofs.WriteKinds.{ali1-checks, place-small, fits, end-made, not-written, ali1-written}
 use native.Mathlib.Omega.{arith}
 use borrow.Author.Needs.{needs}

@@ -1,7 +1,7 @@
 use Rattle.strip_write.proofs.WriteKinds.{pan1-checks, place-small, fits, end-made, not-written, pan1-written}
 use mathlib.Core.Path.{refl}
 use mathlib.Core.List.{[]}
-use Rattle.strip_kinds.specs.Whole.{whole, pan1}
+use Rattle.strip_records.specs.Whole.{whole, pan1}
 use native.Mathlib.Omega.{arith}
 use borrow.Author.Needs.{needs}
 use Rattle.strip_write.proofs.write.write_pan1.Statement.{statement}

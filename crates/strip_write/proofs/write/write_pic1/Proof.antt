@@ -1,6 +1,6 @@
 use mathlib.Core.List.{[]}
 use Rattle.picture.proofs.Cleared.{body-short}
-use Rattle.strip_kinds.specs.Whole.{whole, pic1}
+use Rattle.strip_records.specs.Whole.{whole, pic1}
 use Rattle.strip_write.proofs.WriteKinds.{pic1-checks, pic1-good, place-small, fits, stopped, end-made, not-written, pic1-written}
 use native.Mathlib.Omega.{arith}
 use borrow.Author.Needs.{needs}
@@ -8,11 +8,11 @@ use Rattle.strip_write.proofs.write.write_pic1.Statement.{statement}
 use Rattle.strip_write.proofs.write.write_pic1.Tie as tie
 use Rattle.strip_write.proofs.write.write_pic1.Reads as reads
 use Rattle.strip_write.proofs.write.write_pic1.Lts as lts
-use Rattle.core.proofs.writer.padding_at.Reads as padding-at-reads
-use Rattle.core.proofs.writer.put_zeros.Reads as put-zeros-reads
+use Rattle.core_write.proofs.writer.padding_at.Reads as padding-at-reads
+use Rattle.core_write.proofs.writer.put_zeros.Reads as put-zeros-reads
 use Rattle.picture.proofs.body.body_length.Reads as body-length-reads
 use Rattle.picture.proofs.body.put_body.Reads as put-body-reads
-use Rattle.picture.proofs.picture_checked.Reads as picture-checked-reads
+use Rattle.picture_fields.proofs.picture_checked.Reads as picture-checked-reads
 use Rattle.strip_write.proofs.write.base_checked.Reads as base-checked-reads
 use Rattle.strip_write.proofs.write.end_checked.Reads as end-checked-reads
 use Rattle.strip_write.proofs.write.put_header.Reads as put-header-reads

@@ -1,4 +1,4 @@
-use Rattle.core.proofs.Checked.{end-stays}
+use Rattle.core_checks.proofs.Checked.{end-stays}
 use native.Mathlib.Omega.{arith}
 use borrow.Author.Needs.{needs}
 use Rattle.text_box.proofs.body.end_checked.Statement.{statement}

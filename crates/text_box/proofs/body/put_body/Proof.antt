@@ -1,4 +1,4 @@
-use Rattle.core.proofs.Puts.{_then_}
+use Rattle.core_write.proofs.Puts.{_then_}
 use Rattle.text_box.specs.Body.{encodeBody}
 use borrow.Author.Needs.{needs}
 use Rattle.text_box.proofs.body.put_body.Statement.{statement}

@@ -1,5 +1,5 @@
 use mathlib.Core.Path.{refl, ap}
-use Rattle.core.proofs.Puts.{_then_, put-as}
+use Rattle.core_write.proofs.Puts.{_then_, put-as}
 use Rattle.ui2d.specs.Parts.{encodeVector2}
 use Rattle.text_box_write.specs.Fixed.{encodeFont}
 use borrow.Author.Needs.{needs}

@@ -1,4 +1,4 @@
-use Rattle.core.proofs.Puts.{_then_}
+use Rattle.core_write.proofs.Puts.{_then_}
 use Rattle.text_box_write.specs.Fixed.{encodeIndices}
 use borrow.Author.Needs.{needs}
 use Rattle.text_box_write.proofs.fixed.put_indices.Statement.{statement}

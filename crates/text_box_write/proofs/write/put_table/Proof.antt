@@ -1,4 +1,4 @@
-use Rattle.core.proofs.Puts.{_then_}
+use Rattle.core_write.proofs.Puts.{_then_}
 use borrow.Author.Needs.{needs}
 use Rattle.text_box_write.proofs.write.put_table.Statement.{statement}
 use Rattle.text_box_write.proofs.write.put_table.Tie as tie

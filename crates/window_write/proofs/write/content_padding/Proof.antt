@@ -1,6 +1,6 @@
 use Prim.Native.Nat.{_+_, _*_}
 use Rattle.window_write.specs.Write.{contentPadding}
-use Rattle.core.proofs.Padding.{padding-small}
+use Rattle.core_write.proofs.Padding.{padding-small}
 use native.Mathlib.Omega.{arith}
 use borrow.Author.Needs.{needs}
 use Rattle.window_write.proofs.write.content_padding.Statement.{statement}

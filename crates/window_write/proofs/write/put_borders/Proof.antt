@@ -1,5 +1,5 @@
 use mathlib.Core.Path.{refl, _∙_}
-use Rattle.core.proofs.Puts.{_then_, put-as}
+use Rattle.core_write.proofs.Puts.{_then_, put-as}
 use Rattle.window_write.specs.Write.{encodeBorders}
 use Rattle.window_write.proofs.Signed.{sides-passed}
 use native.Mathlib.Omega.{arith}

@@ -1,5 +1,5 @@
 use mathlib.Core.Path.{refl}
-use Rattle.core.proofs.Puts.{_then_, put-as}
+use Rattle.core_write.proofs.Puts.{_then_, put-as}
 use Rattle.window_write.specs.Write.{encodeContent}
 use native.Mathlib.Omega.{arith}
 use borrow.Author.Needs.{needs}

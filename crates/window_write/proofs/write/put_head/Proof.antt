@@ -1,6 +1,6 @@
 use mathlib.Core.Path.{refl, ap}
 use Rattle.core.specs.Bytes.{bytesOf}
-use Rattle.core.proofs.Puts.{_then_, put-as}
+use Rattle.core_write.proofs.Puts.{_then_, put-as}
 use Rattle.window_write.specs.Write.{encodeHead}
 use borrow.Author.Needs.{needs}
 use Rattle.window_write.proofs.write.put_head.Statement.{statement}

@@ -1,7 +1,7 @@
 use mathlib.Core.Path.{_≡_}
 use Prim.Native.Nat.{_+_, _-_, _*_, _≤_}
 use Rattle.core.specs.Bytes.{bytesOfAll, Put}
-use Rattle.core.proofs.Puts.{_then_, put-as, put-none}
+use Rattle.core_write.proofs.Puts.{_then_, put-as, put-none}
 use Rattle.window_write.specs.Write.{frameOffsets}
 use Rattle.window_write.proofs.Puts.{offsets-more}
 use borrow.Author.Needs.{needs}

@@ -1,0 +1,2 @@
+// The checks that calls share, and what calls answer.
+pub mod checks;

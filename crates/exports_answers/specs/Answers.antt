@@ -1,0 +1,57 @@
+-- What a call answers: the number that it returns, and its answer's words. Numbers are those of layout.rt of flat.
+use Prim.Native.Nat.{ℕ}
+use mathlib.Core.List.{List, [], _∷_}
+use Rattle.core.specs.Bytes.{splice}
+use Rattle.core.specs.Refusals.{numberOf, figureA, figureB}
+use Rattle.core.specs.declared.error.Refusal.{Refusal}
+use Rattle.core_checks.specs.declared.checks.Written.{Written}
+use Rattle.core_checks.specs.declared.checks.Written.the-variants as Writtens
+use Rattle.strip_read.specs.declared.read.Section.{Section}
+use Rattle.strip_read.specs.declared.read.Section.the-variants as Sections
+use Rattle.exports_answers.specs.declared.answers.Answer.{Answer}
+
+abbrev pub answer : ℕ → ℕ → ℕ → ℕ → Answer
+answer code a b c = record { code = code; a = a; b = b; c = c }
+
+-- SHORT_RECORD
+abbrev pub shortRecord : Answer
+shortRecord = answer 5 116 0 0
+
+-- BAD_WORD, of the word at an index
+abbrev pub badWord : ℕ → Answer
+badWord index = answer 6 index 0 0
+
+-- REFUSED: document 01's number and figures
+abbrev pub refusedAnswer : Refusal → Answer
+refusedAnswer why = answer 4 (numberOf why) (figureA why) (figureB why)
+
+-- END, PASSED, PANE
+abbrev pub sectionAnswer : Section → Answer
+sectionAnswer Sections.End = answer 0 0 0 0
+sectionAnswer (Sections.Passed next) = answer 1 next 0 0
+sectionAnswer (Sections.Pane end next) = answer 2 end next 0
+sectionAnswer (Sections.Refused why) = refusedAnswer why
+
+-- WRITTEN
+abbrev pub writtenAnswer : Written → Answer
+writtenAnswer (Writtens.End end) = answer 3 end 0 0
+writtenAnswer (Writtens.Refused why) = refusedAnswer why
+
+-- PART: of the strip (0) or of the lent caption (1), from a place on, so many bytes
+abbrev pub partAnswer : ℕ → ℕ → ℕ → Answer
+partAnswer which place long = answer 8 which place long
+
+-- ---- what the caller sees: the number returned, and the answer's words
+
+abbrev pub answerWords : Answer → List ℕ
+answerWords x = x .a ∷ x .b ∷ x .c ∷ []
+
+pub record Returned : Type 0 where
+  pub code : ℕ
+  pub words : List ℕ
+
+abbrev pub returned : ℕ → List ℕ → Returned
+returned code a = record { code = code; words = a }
+
+unfoldable pub given : Answer → List ℕ → Returned
+given x a = returned (x .code) (splice a 0 (answerWords x))

@@ -1,0 +1,2 @@
+// What the calls for C and Rust answer.
+pub mod answers;

@@ -1,0 +1,2 @@
+// The words of a record tested; its label and its caption.
+pub mod parts;

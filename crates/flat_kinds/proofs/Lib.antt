@@ -1,0 +1,2 @@
+pub mod OwnLengths
+pub mod Sides

@@ -1,0 +1,2 @@
+// The checks of a base pane.
+pub mod checks;

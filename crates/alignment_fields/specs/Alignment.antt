@@ -10,7 +10,7 @@ use Rattle.core.specs.declared.cursor.Place.{Place}
 use Rattle.core.specs.declared.cursor.U8Taken.{U8Taken}
 use Rattle.core.specs.declared.cursor.U16Taken.{U16Taken}
 use Rattle.core.specs.declared.cursor.U32Taken.{U32Taken}
-use Rattle.ui2d.specs.Floats.{float}
+use Rattle.floats.specs.Floats.{float}
 use Rattle.alignment_fields.specs.declared.AlignmentPane.{AlignmentPane}
 use Rattle.alignment_fields.specs.declared.AlignmentTaken.{AlignmentTaken}
 

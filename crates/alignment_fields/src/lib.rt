@@ -3,10 +3,8 @@ use core::cursor;
 use core::cursor::ByteOrder;
 use core::cursor::Place;
 use core_write::writer;
-use ui2d::Binary32;
+use floats::Binary32;
 ghost use mathlib.Core.Path.{_≡_};
-ghost use Prim.Native.Nat.{_+_, _≤_};
-ghost use lib.ListN.{length};
 ghost use Rattle.core.specs.Bytes.{Room, Put};
 ghost use Rattle.alignment_fields.specs.Alignment.{boolByte, alignmentTaken, blankAlignment, encodeAlignment, TypedAlignment};
 

@@ -17,7 +17,8 @@ use Rattle.exports_answers.specs.Answers.{shortRecord, badWord, writtenAnswer, 
 use Rattle.exports_answers.specs.declared.answers.Answer.{Answer}
 use Rattle.exports_read.specs.Outcomes.{ReadOutcome, readOutcome}
 use Rattle.exports_parts.proofs.Outcomes.{of-short, of-bad, of-good}
-use Rattle.exports.specs.Calls.{WriteOutcome, writeOutcome, sectionWritten, bodyAnswer, bodyOutput, bodyWritten, readSeen, seenRead, writeSeen, seenWrite, seenPart}
+use Rattle.exports.specs.Calls.{WriteOutcome, writeOutcome, sectionWritten, bodyWritten, readSeen, seenRead, writeSeen, seenWrite, seenPart}
+use Rattle.flat_write.specs.Bodies.{bodyAnswer, bodyOutput}
 
 -- ---- writes
 

@@ -1,6 +1,4 @@
 // The writes over the words of a record.
-use crate::bodies;
-use crate::sections;
 use exports_answers::answers;
 use exports_answers::answers::Answer;
 use exports_answers::answers::bad_word;
@@ -9,6 +7,8 @@ use exports_parts::parts::record_checked;
 use flat::layout;
 use flat_records::bounds::Checked;
 use flat_records::records;
+use flat_write::bodies;
+use flat_write::sections;
 ghost use mathlib.Core.Path.{_≡_};
 ghost use Rattle.strip_records.specs.Whole.{lists};
 ghost use Rattle.exports.specs.Calls.{writeOutcome, sectionWritten, bodyWritten};

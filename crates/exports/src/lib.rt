@@ -1,8 +1,6 @@
 // The calls for C and Rust. A slice crosses as its pointer and its length; a record as the words of layout.rt; an answer as a number and three words.
 // Each call ends, whatever it is handed, and changes nothing where it does not answer PANE or WRITTEN, but for the answer's words.
-mod bodies;
 mod calls;
-mod sections;
 
 use exports_answers::answers;
 use exports_parts::parts;

@@ -6,8 +6,8 @@ use Rattle.core.specs.Refusals.{numberOf, figureA, figureB}
 use Rattle.core.specs.declared.error.Refusal.{Refusal}
 use Rattle.core_checks.specs.declared.checks.Written.{Written}
 use Rattle.core_checks.specs.declared.checks.Written.the-variants as Writtens
-use Rattle.strip_read.specs.declared.read.Section.{Section}
-use Rattle.strip_read.specs.declared.read.Section.the-variants as Sections
+use Rattle.strip_header.specs.declared.Section.{Section}
+use Rattle.strip_header.specs.declared.Section.the-variants as Sections
 use Rattle.exports_answers.specs.declared.answers.Answer.{Answer}
 
 abbrev pub answer : ℕ → ℕ → ℕ → ℕ → Answer

@@ -2,7 +2,7 @@
 use core::error::Refusal;
 use core_checks::checks::Written;
 use flat::layout;
-use strip_read::read::Section;
+use strip_header::Section;
 ghost use mathlib.Core.Path.{_≡_};
 ghost use Prim.Native.Nat.{_≤_};
 ghost use lib.ListN.{length};

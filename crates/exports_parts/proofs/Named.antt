@@ -7,8 +7,8 @@ use lib.ListN.{length, take, drop}
 use lib.Seq.{take-length}
 use lib.Dec.{eqb}
 use Rattle.text_box_caption.specs.Caption.{within, labelOf, captionOf}
-use Rattle.text_box_read.specs.declared.Label.{Label}
-use Rattle.text_box_read.specs.declared.Label.the-variants as label
+use Rattle.text_box_parts.specs.declared.Label.{Label}
+use Rattle.text_box_parts.specs.declared.Label.the-variants as label
 use Rattle.exports_answers.specs.declared.answers.Answer.{Answer}
 use Rattle.exports_answers.specs.Answers.{partAnswer}
 use Rattle.exports_parts.specs.Parts.{labelPart, captionPart}

@@ -6,8 +6,8 @@ use mathlib.Core.List.{List}
 use lib.ListN.{length}
 use borrow.Author.Tests.{lt-ltb, le-ltb, le-leb, lt-leb}
 use Rattle.text_box_caption.specs.Caption.{within}
-use Rattle.text_box_read.specs.declared.Label.{Label}
-use Rattle.text_box_read.specs.declared.Label.the-variants as label
+use Rattle.text_box_parts.specs.declared.Label.{Label}
+use Rattle.text_box_parts.specs.declared.Label.the-variants as label
 use Rattle.flat_records.specs.Below.{wordsChecked}
 use Rattle.flat_records.specs.declared.bounds.Checked.{Checked}
 use Rattle.flat_records.specs.declared.bounds.Checked.the-variants.{Good, Bad}

@@ -15,7 +15,7 @@ use Rattle.strip_kinds.specs.Body.{bodyLists}
 use Rattle.strip_read.specs.Read.{refusedWith, endedWith, passedWith, finished, readBody, readSection, listsAfter}
 use Rattle.strip_records.specs.declared.kind.Kind.{Kind}
 use Rattle.strip_records.specs.declared.record.Record.{Record}
-use Rattle.strip_read.specs.declared.read.Section.the-variants as Sections
+use Rattle.strip_header.specs.declared.Section.the-variants as Sections
 use Rattle.strip_read.specs.declared.read.SectionRead.{SectionRead}
 use Rattle.flat_records.specs.Records.{kindOf, recordWords}
 use Rattle.exports_answers.specs.Answers.{shortRecord, badWord, refusedAnswer, sectionAnswer}

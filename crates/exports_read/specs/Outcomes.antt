@@ -22,8 +22,8 @@ use Rattle.strip_records.specs.declared.kind.Kind.{Kind}
 use Rattle.strip_records.specs.declared.kind.Kind.the-variants.{Pan1, Pic1, Txt1, Wnd1, Ali1}
 use Rattle.strip_records.specs.declared.record.Record.{Record}
 use Rattle.strip_kinds.specs.declared.body.BodyRead.{BodyRead}
-use Rattle.strip_read.specs.declared.read.Section.{Section}
-use Rattle.strip_read.specs.declared.read.Section.the-variants as Sections
+use Rattle.strip_header.specs.declared.Section.{Section}
+use Rattle.strip_header.specs.declared.Section.the-variants as Sections
 use Rattle.strip_read.specs.declared.read.SectionRead.{SectionRead}
 use Rattle.flat_records.specs.Records.{kindOf, recordWords}
 use Rattle.exports_answers.specs.Answers.{shortRecord, badWord, sectionAnswer}

@@ -6,7 +6,7 @@ use exports_answers::answers::Answer;
 use flat_records::records;
 use pane_read::Pane;
 use picture_fields::PicturePane;
-use strip_read::read::Section;
+use strip_header::Section;
 use text_box::TextBoxPane;
 use window::WindowPane;
 ghost use Prim.Native.Nat.{_≤_};

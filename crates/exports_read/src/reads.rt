@@ -7,8 +7,7 @@ use exports_answers::answers;
 use exports_answers::answers::Answer;
 use flat::layout;
 use flat_records::records;
-use strip_read::read;
-use strip_read::read::Section;
+use strip_header::Section;
 use strip_records::kind::Kind;
 use strip_records::kind::KindFound;
 ghost use Prim.Native.Nat.{_≤_};
@@ -33,7 +32,7 @@ fn read_at(
     requires { ⌜ (place ≤ length (now «data»)) × (length (now «data») ≤ 16777216) × Full (lists (now quads) (now units) (now lines) (now frames)) × (116 ≤ length (now words)) ⌝ }
     ensures { λ a. ⌜ readOutcome a (now (words .exit)) (lists (now (quads .exit)) (now (units .exit)) (now (lines .exit)) (now (frames .exit))) ≡ delivered (readAt ByteOrder.Little (now («data» .entry)) place) (now (words .entry)) (listsAt ByteOrder.Little (now («data» .entry)) place (lists (now (quads .entry)) (now (units .entry)) (now (lines .entry)) (now (frames .entry)))) ⌝ }
 {
-    let header = read::take_header(ByteOrder::Little, data, place);
+    let header = strip_header::take_header(ByteOrder::Little, data, place);
     let letters = header.letters;
     let size = header.size;
     let then = header.then;
@@ -79,7 +78,7 @@ pub fn read_section(
     if words.len() < layout::RECORD_WORDS {
         return answers::short_record();
     }
-    let p = read::read_start(
+    let p = strip_header::read_start(
         data.len(),
         place,
         quads.len(),

@@ -1,14 +1,14 @@
 -- The laws of words that are stored one after the other, and of bytes that are read back.
 use mathlib.Core.Path.{_≡_, refl, sym, ap, _∙_}
-use Prim.Native.Nat.{ℕ, zero, suc, _+_, _-_, _%_, _≤_, _<_}
+use Prim.Native.Nat.{ℕ, zero, suc, _+_, _-_, _≤_, _<_}
 use native.Mathlib.Nat.{add-zero}
 use native.Mathlib.Omega.{arith}
 use native.Mathlib.Numerals.{add-one}
 use mathlib.Core.List.{List, [], _∷_, _++_}
-use lib.ListN.{length, take, drop, set, getD, length-append, length-set}
-use lib.Seq.{take-all, take-suc-set, drop-cons, length-take-le}
+use lib.ListN.{length, take, set, getD, length-set}
+use lib.Seq.{take-all, take-suc-set, length-take-le}
 use Rattle.core.specs.Bytes.{splice}
-use Rattle.core_write.proofs.Puts.{length-splice, splice-append, take-more}
+use Rattle.core_write.proofs.Puts.{splice-append, take-more}
 use Rattle.flat.specs.Words.{Stored, byteAt, bytesAt}
 
 -- words stored after others are the two together

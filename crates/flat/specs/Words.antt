@@ -7,9 +7,9 @@ use lib.ListN.{length, getD}
 use mir.Val.{boolByte}
 use Rattle.core.specs.Bytes.{splice}
 use Rattle.flags.specs.Packed.{flagOf}
-use Rattle.ui2d.specs.Floats.{float}
+use Rattle.floats.specs.Floats.{float}
 use Rattle.ui2d.specs.Typed.{colorAt}
-use Rattle.ui2d.specs.declared.Binary32.{Binary32}
+use Rattle.floats.specs.declared.Binary32.{Binary32}
 use Rattle.ui2d.specs.declared.Vector2f.{Vector2f}
 use Rattle.ui2d.specs.declared.Vector3f.{Vector3f}
 use Rattle.ui2d.specs.declared.Color4u8.{Color4u8}

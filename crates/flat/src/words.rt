@@ -1,5 +1,5 @@
 // Words of a lent record at a place.
-use ui2d::Binary32;
+use floats::Binary32;
 use ui2d::Color4u8;
 use ui2d::Vector2f;
 use ui2d::Vector3f;

@@ -1,6 +1,6 @@
 -- Signed numbers that the code passes on: by their bits, and back.
-use mathlib.Core.Path.{_≡_, refl, ap, _∙_}
-use Prim.Native.Nat.{ℕ, _<_, _%_}
+use mathlib.Core.Path.{_≡_, ap, _∙_}
+use Prim.Native.Nat.{ℕ, _<_}
 use native.Mathlib.Omega.{arith}
 use mathlib.Core.List.{List, [], _∷_}
 use lib.IntN.{ℤ}
@@ -9,24 +9,11 @@ use mir.Val.{SFits, toZ, ofZ}
 use mir.Facts.{toZ-ofZ}
 use Rattle.core.specs.Bytes.{bitsOf}
 use Rattle.core.proofs.TwosComplement.{signed-fits}
-use Rattle.flags.specs.Enums.{alignmentOf}
-use Rattle.flags.specs.declared.position.TextPosition.{TextPosition}
-use Rattle.flags.specs.declared.text.TextAlignment.{TextAlignment}
-use Rattle.flags.specs.declared.text.TextPaneFlags.{TextPaneFlags}
 use Rattle.flags.specs.declared.window.WindowFlags.{WindowFlags}
-use Rattle.ui2d.specs.declared.Binary32.{Binary32}
-use Rattle.ui2d.specs.declared.Vector2f.{Vector2f}
-use Rattle.ui2d.specs.declared.Color4u8.{Color4u8}
-use Rattle.text_box_read.specs.declared.FontMeasure.{FontMeasure}
-use Rattle.text_box_read.specs.declared.Text.{Text}
-use Rattle.text_box_read.specs.declared.Label.{Label}
-use Rattle.text_box_read.specs.declared.LineTable.{LineTable}
-use Rattle.text_box_read.specs.declared.TextBoxPane.{TextBoxPane}
 use Rattle.window_read.specs.declared.WindowContent.{WindowContent}
 use Rattle.window_read.specs.declared.WindowPane.{WindowPane}
-use Rattle.flat.specs.Words.{Stored, halfAt, byteAt, floatAt, vector2At, quadrupleAt}
-use Rattle.flat_kinds.specs.Own.{originAt, textFlagsAt, measureAt, textAt, labelAt, linesAt, textBoxAt, sideAt, windowFlagsAt, contentAt, windowAt}
-use Rattle.flat.proofs.Storing.{stored-as}
+use Rattle.flat.specs.Words.{Stored, halfAt, byteAt}
+use Rattle.flat_kinds.specs.Own.{sideAt, windowFlagsAt, contentAt, windowAt}
 
 -- a number, as it is passed on
 abbrev pub passed : ℤ → ℤ
@@ -68,37 +55,3 @@ pub window-read : (w : List ℕ) (a b c d e f g h : ℤ) (k : WindowFlags) (x : 
 unfolding windowAt
 window-read w a b c d e f g h k x ea eb ec ed ee ef eg eh ek ex =
     rw (back w 62 a ea, back w 63 b eb, back w 64 c ec, back w 65 d ed, back w 66 e ee, back w 67 f ef, back w 68 g eg, back w 69 h eh, ek, ex)
-
--- a text box, field by field
-pub text-box-read : (w : List ℕ) (o : TextPosition) (al : TextAlignment) (f : TextPaneFlags) (it : Binary32) (ft : Color4u8) (fb : Color4u8) (m : FontMeasure) (cs : Binary32) (ls : Binary32) (st : Vector2f) (ss : Vector2f) (sc : Color4u8) (sb : Color4u8) (si : Binary32) (x : Text) (la : Label) (li : LineTable)
-    → o ≡ originAt w → al ≡ alignmentOf (byteAt w 68) → f ≡ textFlagsAt w → it ≡ floatAt w 86
-    → ft ≡ quadrupleAt w 87 → fb ≡ quadrupleAt w 91 → m ≡ measureAt w → cs ≡ floatAt w 95
-    → ls ≡ floatAt w 96 → st ≡ vector2At w 97 → ss ≡ vector2At w 99 → sc ≡ quadrupleAt w 101
-    → sb ≡ quadrupleAt w 105 → si ≡ floatAt w 109 → x ≡ textAt w → la ≡ labelAt w
-    → li ≡ linesAt w
-    → _≡_ {A = TextBoxPane} (record {
-      «text_buffer_size» = halfAt w 62;
-      «text_length» = halfAt w 63;
-      «material_index» = halfAt w 64;
-      «font_index» = halfAt w 65;
-      «text_origin» = o;
-      «text_alignment» = al;
-      «text_flags» = f;
-      «italic_tilt» = it;
-      «font_top_color» = ft;
-      «font_bottom_color» = fb;
-      «font_measure» = m;
-      «character_space» = cs;
-      «line_space» = ls;
-      «shadow_translation» = st;
-      «shadow_size» = ss;
-      «shadow_top_color» = sc;
-      «shadow_bottom_color» = sb;
-      «shadow_italic_tilt» = si;
-      text = x;
-      label = la;
-      «line_table» = li;
-    }) (textBoxAt w)
-unfolding textBoxAt
-text-box-read w o al f it ft fb m cs ls st ss sc sb si x la li eo eal ef eit eft efb em ecs els est ess esc esb esi ex ela eli =
-    rw (eo, eal, ef, eit, eft, efb, em, ecs, els) (rw (est, ess, esc, esb, esi, ex, ela, eli))

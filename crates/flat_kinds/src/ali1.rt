@@ -2,7 +2,7 @@
 use alignment_fields::AlignmentPane;
 use flat::layout;
 use flat::words;
-use ui2d::Binary32;
+use floats::Binary32;
 ghost use Prim.Native.Nat.{_≤_};
 ghost use lib.ListN.{length};
 ghost use mathlib.Core.Path.{_≡_};

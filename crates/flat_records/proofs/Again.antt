@@ -1,9 +1,9 @@
 -- THE LAW: words that a read hands out are, handed in again, the same record.
-use mathlib.Core.Path.{_≡_, refl, sym, ap, _∙_, subst}
-use Prim.Native.Nat.{ℕ, _+_, _≤_, _<_}
+use mathlib.Core.Path.{_≡_, refl, sym, ap, _∙_}
+use Prim.Native.Nat.{ℕ, _+_, _≤_}
 use native.Mathlib.Omega.{arith}
 use mathlib.Core.List.{List, [], _∷_, _++_}
-use lib.ListN.{length, drop, getD}
+use lib.ListN.{length, drop}
 use Rattle.core.proofs.Back.{Holds, split}
 use Rattle.core_write.proofs.Puts.{splice-cut}
 use Rattle.core.specs.Bytes.{splice}

@@ -1,17 +1,15 @@
 -- The base, a picture and an alignment pane, read back from their words.
-use mathlib.Core.Path.{_≡_, refl, sym, ap, _∙_, subst}
-use Prim.Native.Nat.{ℕ, _+_, _≤_, _<_}
+use mathlib.Core.Path.{_≡_, refl, sym, ap, _∙_}
+use Prim.Native.Nat.{ℕ, _+_, _<_}
 use native.Mathlib.Omega.{arith}
 use mathlib.Core.List.{List, [], _∷_, _++_}
-use lib.ListN.{length, getD}
+use lib.ListN.{length}
 use Rattle.core.proofs.Back.{Holds, split}
 use Rattle.core.specs.declared.text.FixedString24.{FixedString24}
 use Rattle.core.specs.declared.text.FixedString8.{FixedString8}
 use Rattle.flags.specs.declared.pane.PaneFlags.{PaneFlags}
 use Rattle.flags.specs.declared.pane.PaneFlagsEx.{PaneFlagsEx}
 use Rattle.flags.specs.declared.position.BflytPosition.{BflytPosition}
-use Rattle.ui2d.specs.declared.Vector2f.{Vector2f}
-use Rattle.ui2d.specs.declared.Vector3f.{Vector3f}
 use Rattle.pane_read.specs.Typed.{TypedPane}
 use Rattle.pane_read.specs.declared.Pane.{Pane}
 use Rattle.picture_fields.specs.Typed.{TypedPicture, TypedShape}

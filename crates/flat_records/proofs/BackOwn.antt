@@ -1,6 +1,6 @@
 -- A text box and a window, read back from their words.
-use mathlib.Core.Path.{_≡_, refl, sym, ap, _∙_, subst}
-use Prim.Native.Nat.{ℕ, _+_, _≤_, _<_}
+use mathlib.Core.Path.{_≡_, refl, ap, _∙_}
+use Prim.Native.Nat.{ℕ, _+_, _<_}
 use native.Mathlib.Omega.{arith}
 use mathlib.Core.List.{List, [], _∷_, _++_}
 use lib.ListN.{length, getD}
@@ -11,32 +11,28 @@ use mir.Val.{SFits}
 use Rattle.core.specs.Bytes.{bitsOf, signedOf}
 use Rattle.core.proofs.TwosComplement.{bits-fit, signed-bits}
 use Rattle.flags.specs.Enums.{alignmentOf, alignmentNumber, windowKindOf, windowKindNumber}
-use Rattle.flags.specs.declared.position.TextPosition.{TextPosition}
-use Rattle.flags.specs.declared.text.TextAlignment.{TextAlignment}
 use Rattle.flags.specs.declared.text.TextPaneFlags.{TextPaneFlags}
 use Rattle.flags.specs.declared.window.WindowFlags.{WindowFlags}
-use Rattle.flags.specs.declared.window.WindowKind.{WindowKind}
 use Rattle.flags.proofs.Enums.{alignment-back, alignment-le, window-kind-back, window-kind-le}
-use Rattle.ui2d.specs.declared.Binary32.{Binary32}
+use Rattle.floats.specs.declared.Binary32.{Binary32}
 use Rattle.text_box_read.specs.Typed.{TypedTextBox, TypedMeasure}
 use Rattle.text_box_read.specs.declared.FontMeasure.{FontMeasure}
 use Rattle.text_box_read.specs.declared.FontMeasure.the-variants as measure
-use Rattle.text_box_read.specs.declared.Text.{Text}
-use Rattle.text_box_read.specs.declared.Text.the-variants as text
-use Rattle.text_box_read.specs.declared.Label.{Label}
-use Rattle.text_box_read.specs.declared.Label.the-variants as label
-use Rattle.text_box_read.specs.declared.LineTable.{LineTable}
-use Rattle.text_box_read.specs.declared.LineTable.the-variants as lines
+use Rattle.text_box_parts.specs.declared.Text.{Text}
+use Rattle.text_box_parts.specs.declared.Text.the-variants as text
+use Rattle.text_box_parts.specs.declared.Label.{Label}
+use Rattle.text_box_parts.specs.declared.Label.the-variants as label
+use Rattle.text_box_parts.specs.declared.LineTable.{LineTable}
+use Rattle.text_box_parts.specs.declared.LineTable.the-variants as lines
 use Rattle.text_box_read.specs.declared.TextBoxPane.{TextBoxPane}
 use Rattle.window_read.specs.Typed.{TypedWindow}
-use Rattle.window_read.specs.declared.WindowContent.{WindowContent}
 use Rattle.window_read.specs.declared.WindowPane.{WindowPane}
 use Rattle.flat.specs.Words.{colorWords, colorsWords, byteAt, halfAt, floatAt}
-use Rattle.flat_kinds.specs.Own.{indicesWords, textFlagsWords, measureWords, fontWords, shadowWords, textWords, labelWords, linesWords, partsWords, textBoxWords, originAt, textFlagsAt, measureAt, textAt, labelAt, linesAt, textBoxAt, inflationWords, frameSizeWords, windowFlagsWords, contentWords, windowWords, sideAt, windowFlagsAt, contentAt, windowAt}
+use Rattle.flat_kinds.specs.Own.{inflationWords, frameSizeWords, windowFlagsWords, contentWords, windowWords, sideAt, windowFlagsAt, windowAt}
+use Rattle.flat_text_box.specs.TextBox.{indicesWords, textFlagsWords, measureWords, fontWords, shadowWords, textWords, labelWords, linesWords, partsWords, textBoxWords, originAt, textFlagsAt, measureAt, textAt, labelAt, linesAt, textBoxAt}
 use Rattle.flat_records.specs.Typed.{TypedLines}
-use Rattle.flat_records.proofs.BackParts.{nth, flag-nth, byte-nth, half-nth, word-nth, float-nth, horizontal-nth, vertical-nth, vector2-nth, color-back, colors-back}
-use Rattle.flat_kinds.proofs.OwnLengths.{measure-end, font-end, text-end, label-end}
-use Rattle.flat_kinds.proofs.Sides.{text-box-read}
+use Rattle.flat_records.proofs.BackParts.{nth, flag-nth, byte-nth, half-nth, float-nth, horizontal-nth, vertical-nth, vector2-nth, color-back, colors-back}
+use Rattle.flat_text_box.proofs.Lengths.{measure-end, font-end, text-end, label-end}
 
 module _ {w : List ℕ} where
   -- ---- txt1

@@ -1,6 +1,6 @@
 -- Words that stand at a place are read back: flags, numbers, bytes, floats, colours.
 use mathlib.Core.Path.{_≡_, refl, sym, ap, _∙_, subst}
-use Prim.Native.Nat.{ℕ, zero, suc, _+_, _%_, _<_}
+use Prim.Native.Nat.{ℕ, _+_, _%_, _<_}
 use native.Mathlib.Nat.{mod-eq-of-lt}
 use native.Mathlib.Omega.{arith}
 use mathlib.Core.Bool.{Bool, true, false}
@@ -13,9 +13,9 @@ use Rattle.flags.specs.Enums.{horizontalOf, horizontalNumber, verticalOf, verti
 use Rattle.flags.specs.declared.position.HorizontalPosition.{HorizontalPosition}
 use Rattle.flags.specs.declared.position.VerticalPosition.{VerticalPosition}
 use Rattle.flags.proofs.Enums.{horizontal-back, horizontal-le, vertical-back, vertical-le}
-use Rattle.ui2d.specs.Floats.{float}
+use Rattle.floats.specs.Floats.{float}
 use Rattle.ui2d.specs.Typed.{TypedVector2, TypedVector3, TypedColor, TypedColors, colorAt}
-use Rattle.ui2d.specs.declared.Binary32.{Binary32}
+use Rattle.floats.specs.declared.Binary32.{Binary32}
 use Rattle.ui2d.specs.declared.Vector2f.{Vector2f}
 use Rattle.ui2d.specs.declared.Vector3f.{Vector3f}
 use Rattle.ui2d.specs.declared.Color4u8.{Color4u8}

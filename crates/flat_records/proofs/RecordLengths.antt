@@ -10,7 +10,8 @@ use Rattle.flat.specs.Base.{baseWords}
 use Rattle.flat_kinds.specs.Own.{pictureWords, windowWords}
 use Rattle.flat_records.specs.Records.{kindOf, ownWords, recordWords}
 use Rattle.flat.proofs.Lengths.{base-long}
-use Rattle.flat_kinds.proofs.OwnLengths.{shape-long, text-box-long}
+use Rattle.flat_kinds.proofs.OwnLengths.{shape-long}
+use Rattle.flat_text_box.proofs.Lengths.{text-box-long}
 
 own-long : (k : Kind) (r : Record) → length (ownWords k r) ≤ 54
 unfolding ownWords pictureWords windowWords

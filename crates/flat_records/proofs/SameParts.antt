@@ -4,8 +4,8 @@ use Prim.Native.Nat.{ℕ, zero, suc, _+_, _%_, _<_}
 use native.Mathlib.Nat.{mod-eq-of-lt}
 use native.Mathlib.Omega.{arith}
 use mathlib.Core.Bool.{Bool, true, false, cond}
-use mathlib.Core.List.{List, [], _∷_, _++_}
-use lib.ListN.{length, getD, set}
+use mathlib.Core.List.{List, [], _∷_}
+use lib.ListN.{getD}
 use lib.Seq.{set-getD}
 use lib.Dec.{ltb}
 use borrow.Author.Tests.{ltb-true}
@@ -13,7 +13,7 @@ use Rattle.core.specs.Bytes.{splice, bitsOf, signedOf}
 use Rattle.core.proofs.TwosComplement.{bits-signed}
 use Rattle.flags.specs.Packed.{flagOf}
 use Rattle.flags.specs.Enums.{horizontalOf, horizontalNumber, verticalOf, verticalNumber, alignmentOf, alignmentNumber, windowKindOf, windowKindNumber}
-use Rattle.flat.specs.Words.{flagWord, byteAt, bytesAt, quadrupleAt, colorWords, colorsAt, colorsWords}
+use Rattle.flat.specs.Words.{flagWord, bytesAt}
 use Rattle.flat_records.specs.Records.{kindOf, kindNumber}
 use Rattle.flat_records.specs.Below.{scanned, orScanned, Bound, checkedBy}
 use Rattle.flat_records.specs.declared.bounds.Checked.{Checked}

@@ -1,16 +1,17 @@
 -- THE LAW: words that pass the test for bounds, and in which what is absent is 0, come back from their record the same.
-use mathlib.Core.Path.{_≡_, refl, sym, ap, _∙_, subst}
-use Prim.Native.Nat.{ℕ, zero, suc, _+_, _%_, _<_}
+use mathlib.Core.Path.{_≡_, refl, ap, _∙_, subst}
+use Prim.Native.Nat.{ℕ, zero, suc, _+_, _<_}
 use native.Mathlib.Nat.{mod-eq-of-lt}
 use native.Mathlib.Omega.{arith}
 use mathlib.Core.List.{List, [], _∷_, _++_}
-use lib.ListN.{length, getD}
+use lib.ListN.{getD}
 use Rattle.core.specs.Bytes.{splice}
 use Rattle.strip_records.specs.declared.kind.Kind.{Kind}
 use Rattle.strip_records.specs.declared.kind.Kind.the-variants.{Pan1, Pic1, Txt1, Wnd1, Ali1}
-use Rattle.flat.specs.Words.{flagWord, flagAt, wordAt, byteAt, halfAt, bytesAt, quadrupleAt, colorWords, colorsAt, colorsWords, floatAt, vector2At, vector3At}
+use Rattle.flat.specs.Words.{byteAt, halfAt, quadrupleAt, colorWords, colorsAt, colorsWords, floatAt, vector2At, vector3At}
 use Rattle.flat.specs.Base.{paneFlagsWords, positionWords, flagExWords, nameWords, userWords, transformWords, baseWords, paneFlagsAt, positionAt, flagExAt, nameAt, userAt, baseAt}
-use Rattle.flat_kinds.specs.Own.{shapeWords, pictureWords, shapeAt, pictureAt, indicesWords, textFlagsWords, measureWords, fontWords, shadowWords, textWords, labelWords, linesWords, partsWords, textBoxWords, originAt, textFlagsAt, measureAt, textAt, labelAt, linesAt, textBoxAt, inflationWords, frameSizeWords, windowFlagsWords, contentWords, windowWords, sideAt, windowFlagsAt, contentAt, windowAt, alignmentWords, alignmentAt}
+use Rattle.flat_kinds.specs.Own.{shapeWords, pictureWords, shapeAt, pictureAt, inflationWords, frameSizeWords, windowFlagsWords, windowWords, windowFlagsAt, windowAt, alignmentWords, alignmentAt}
+use Rattle.flat_text_box.specs.TextBox.{indicesWords, textFlagsWords, measureWords, fontWords, shadowWords, textWords, labelWords, linesWords, textBoxWords, textFlagsAt, measureAt, textAt, labelAt, linesAt, textBoxAt}
 use Rattle.flat_records.specs.Records.{kindOf, kindNumber, ownWords, recordWords, recordBy, recordOf}
 use Rattle.flat_records.specs.Below.{baseBounds, pictureBounds, fontBounds, shadowBounds, windowBounds, alignmentBounds, checkedBy, ownChecked, wordsChecked}
 use Rattle.flat_records.specs.Typed.{Plain}

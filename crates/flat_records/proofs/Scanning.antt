@@ -1,16 +1,15 @@
 -- The laws of a loop that looks for the first word that is not below its bound.
 use mathlib.Core.Path.{_≡_, refl, sym, ap, _∙_}
-use Prim.Native.Nat.{ℕ, zero, suc, _+_, _-_, _≤_, _<_}
+use Prim.Native.Nat.{ℕ, suc, _+_, _-_, _≤_, _<_}
 use native.Mathlib.Nat.{add-zero}
 use native.Mathlib.Omega.{arith}
-use mathlib.Core.Bool.{Bool, cond}
+use mathlib.Core.Bool.{cond}
 use mathlib.Core.List.{List, [], _∷_}
 use lib.ListN.{getD}
 use lib.Dec.{ltb}
 use borrow.Author.Tests.{lt-ltb, le-ltb}
 use Rattle.strip_records.specs.Typed.{Below}
 use Rattle.flat_records.specs.Below.{scanned}
-use Rattle.flat_records.specs.declared.bounds.Checked.{Checked}
 use Rattle.flat_records.specs.declared.bounds.Checked.the-variants.{Good, Bad}
 
 -- what is found from the i-th word on is what is found

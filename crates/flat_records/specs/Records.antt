@@ -14,7 +14,8 @@ use Rattle.strip_records.specs.declared.kind.Kind.{Kind}
 use Rattle.strip_records.specs.declared.kind.Kind.the-variants.{Pan1, Pic1, Txt1, Wnd1, Ali1}
 use Rattle.strip_records.specs.declared.record.Record.{Record}
 use Rattle.flat.specs.Base.{baseWords, baseAt}
-use Rattle.flat_kinds.specs.Own.{pictureWords, pictureAt, textBoxWords, textBoxAt, windowWords, windowAt, alignmentWords, alignmentAt}
+use Rattle.flat_kinds.specs.Own.{pictureWords, pictureAt, windowWords, windowAt, alignmentWords, alignmentAt}
+use Rattle.flat_text_box.specs.TextBox.{textBoxWords, textBoxAt}
 
 -- KIND
 abbrev pub kindNumber : Kind → ℕ

@@ -3,11 +3,10 @@ use mathlib.Core.Path.{_≡_}
 use Prim.Native.Nat.{ℕ, _<_}
 use mathlib.Core.List.{List}
 use lib.ListN.{getD}
-use Rattle.pane_read.specs.declared.Pane.{Pane}
 use Rattle.picture_fields.specs.Picture.{blankPicture}
 use Rattle.text_box_read.specs.TextBox.{blankTextBox}
-use Rattle.text_box_read.specs.declared.LineTable.{LineTable}
-use Rattle.text_box_read.specs.declared.LineTable.the-variants as lines
+use Rattle.text_box_parts.specs.declared.LineTable.{LineTable}
+use Rattle.text_box_parts.specs.declared.LineTable.the-variants as lines
 use Rattle.window_read.specs.Window.{blankWindow}
 use Rattle.alignment_fields.specs.Alignment.{blankAlignment}
 use Rattle.strip_records.specs.Typed.{Below, TypedRecord}

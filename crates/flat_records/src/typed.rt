@@ -3,7 +3,7 @@ use core::text::FixedString8;
 use core::text::FixedString24;
 use pane_read::Pane;
 use strip_records::record::Record;
-use text_box_read::LineTable;
+use text_box_parts::LineTable;
 use text_box_read::TextBoxPane;
 use window_read::WindowPane;
 ghost use Prim.Native.Nat.{_<_};

@@ -4,7 +4,7 @@ use core::cursor::ByteOrder;
 use core::error::Refusal;
 use digits::Line;
 use libc::STDOUT_FILENO;
-use strip_read::read::Section;
+use strip_header::Section;
 
 // ---- answers
 

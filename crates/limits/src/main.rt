@@ -3,7 +3,7 @@ use core::cursor::ByteOrder;
 use core::error::Refusal;
 use core_checks::checks::Written;
 use libc::STDOUT_FILENO;
-use strip_read::read::Section;
+use strip_header::Section;
 use strip_records::kind::Kind;
 use strip_records::record::Record;
 ghost use Prim.Native.Nat.{_≤_};

@@ -5,12 +5,12 @@ use core::cursor::ByteOrder;
 use core::error::Refusal;
 use core::text::FixedString24;
 use libc::STDOUT_FILENO;
-use strip_read::read::Section;
+use strip_header::Section;
 use strip_records::kind::Kind;
 use strip_records::record::Record;
 use walk::Step;
 ghost use mathlib.Core.Path.{_≡_};
-ghost use Prim.Native.Nat.{_-_, _≤_};
+ghost use Prim.Native.Nat.{_-_};
 ghost use Rattle.strip_records.specs.Kinds.{letterBytes};
 
 // ---- the parts of a line

@@ -14,7 +14,7 @@ use Rattle.core.specs.declared.cursor.Place.{Place}
 use Rattle.core.specs.declared.cursor.Place.the-variants.{At}
 use Rattle.core.proofs.Runs.{cleared}
 use Rattle.core_checks.proofs.Checked.{BodyOk, body-started, end-cleared}
-use Rattle.unicode.specs.Utf8.{wellFormed}
+use Rattle.utf8.specs.Utf8.{wellFormed}
 use Rattle.pane_read.specs.Pane.{Sound}
 use Rattle.pane_checks.specs.Checks.{nameIll, nameBad, namesChecked, reserveChecked}
 use Rattle.pane.specs.Body.{paneWriteChecked}

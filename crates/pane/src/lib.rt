@@ -11,8 +11,6 @@ pub use pane_read::PaneTaken;
 pub use pane_read::blank_pane;
 pub use pane_read::take_pane;
 pub use pane_read::typed_pane;
-ghost use Prim.Native.Nat.{_+_, _≤_};
-ghost use lib.ListN.{length};
 ghost use Rattle.core.specs.Bytes.{Room, Put};
 ghost use Rattle.pane_read.specs.Pane.{encodeHead, encodeTransform, encodePane, Sound};
 

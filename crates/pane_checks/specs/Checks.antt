@@ -7,7 +7,7 @@ use lib.Dec.{ltb}
 use Rattle.core.specs.Taken.{stopIf, hasZero}
 use Rattle.core.specs.declared.error.Refusal.the-variants.{BadName, Reserve0, IllFormedUtf8}
 use Rattle.core.specs.declared.cursor.Place.{Place}
-use Rattle.unicode.specs.Utf8.{wellFormed}
+use Rattle.utf8.specs.Utf8.{wellFormed}
 use Rattle.pane_read.specs.declared.Pane.{Pane}
 
 -- the counted bytes are ill-formed UTF-8

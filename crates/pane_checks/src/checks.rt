@@ -25,11 +25,11 @@ fn text_of(bytes: &[u8], count: usize) -> &[u8]
 fn name_ill(bytes: &[u8], count: usize) -> bool
     ensures { λ r. ⌜ r ≡ nameIll (now (bytes .entry)) count ⌝ }
 {
-    if unicode::utf8::is_ascii(bytes) {
+    if utf8::is_ascii(bytes) {
         return false;
     }
     let text = text_of(bytes, count);
-    let formed = unicode::utf8::well_formed(text);
+    let formed = utf8::well_formed(text);
     !formed
 }
 

@@ -12,7 +12,7 @@ use Rattle.core.specs.declared.text.FixedString8.{FixedString8}
 use Rattle.core.specs.declared.text.String24Taken.{String24Taken}
 use Rattle.core.specs.declared.text.String8Taken.{String8Taken}
 use Rattle.flags.specs.Fields.{positionOf, paneFlagsOf, flagExOf, positionNumber, paneFlagsNumber, flagExNumber}
-use Rattle.ui2d.specs.Floats.{float}
+use Rattle.floats.specs.Floats.{float}
 use Rattle.ui2d.specs.Parts.{vector2Taken, vector3Taken, encodeVector2, encodeVector3}
 use Rattle.ui2d.specs.declared.Vector2f.{Vector2f}
 use Rattle.ui2d.specs.declared.Vector3f.{Vector3f}

@@ -1,25 +1,23 @@
 -- A section that a write lets through is read back, anywhere in a buffer.
-use mathlib.Core.Path.{_≡_, refl, sym, ap, _∙_}
+use mathlib.Core.Path.{_≡_, refl, ap, _∙_}
 use Prim.Native.Nat.{ℕ, _+_, _-_, _%_, _^_, _≤_, _<_}
 use native.Mathlib.Nat.{add-zero}
 use native.Mathlib.Omega.{arith}
-use mathlib.Core.Bool.{Bool, true, false, cond}
-use mathlib.Core.List.{List, [], _∷_, _++_}
-use lib.ListN.{length, replicate, length-append, length-replicate}
-use lib.Dec.{lit≤, eqb}
+use mathlib.Core.Bool.{false}
+use mathlib.Core.List.{List}
+use lib.ListN.{length, length-append, length-replicate}
+use lib.Dec.{lit≤}
 use borrow.Author.Tests.{le-ltb, eq-eqb, ne-eqb}
 use Rattle.core.specs.Bytes.{bytesOf, padding}
-use Rattle.core.specs.Taken.{start, advanced, stopIf, numberTaken}
+use Rattle.core.specs.Taken.{start, advanced, stopIf}
 use Rattle.core_checks.specs.Checks.{unlessRefused}
 use Rattle.core.specs.declared.cursor.ByteOrder.{ByteOrder}
 use Rattle.core.specs.declared.cursor.ByteOrder.the-variants.{Little}
-use Rattle.core.specs.declared.cursor.Cursor.{Cursor}
-use Rattle.core.specs.declared.cursor.Place.{Place}
 use Rattle.core.specs.declared.cursor.Place.the-variants.{At}
 use Rattle.core.proofs.Numbers.{length-bytes}
-use Rattle.core.proofs.Cursors.{pos-start, pos-advanced, advanced-zero, advanced-more}
+use Rattle.core.proofs.Cursors.{pos-start, pos-advanced, advanced-zero}
 use Rattle.core_checks.proofs.Checked.{SectionOk, section-passes, list-passes}
-use Rattle.core.proofs.Back.{Holds, split, holds-left, holds-fits, cut, number-at}
+use Rattle.core.proofs.Back.{Holds, holds-left, holds-fits, cut, number-at}
 use Rattle.pane.proofs.Cleared.{Good, sound}
 use Rattle.pane.proofs.Back.{length-pane}
 use Rattle.picture.proofs.Back as picture-laws
@@ -33,16 +31,16 @@ use Rattle.strip_records.specs.Kinds.{letterBytes, lettersOf, kindOf}
 use Rattle.strip_records.specs.Whole.{Lists, Full, Whole}
 use Rattle.strip.specs.Same.{SameOwn, readWhole}
 use Rattle.strip_records.specs.Typed.{Typed}
-use Rattle.strip_read.specs.Read.{readStart, sizeBad, headerTaken, finished, readBody, byKind, listsByKind, orRefused, endedWith, readAt, listsAt, readSection, listsAfter}
+use Rattle.strip_read.specs.Read.{finished, readBody, byKind, listsByKind, orRefused, endedWith, readAt, listsAt, readSection, listsAfter}
+use Rattle.strip_header.specs.Header.{readStart, sizeBad, headerTaken}
 use Rattle.strip_write.specs.Write.{bodyLength, encodeBody, sectionSize, sizeOf, section, sectionEnd}
 use Rattle.strip_records.specs.declared.kind.Kind.{Kind}
 use Rattle.strip_records.specs.declared.kind.Kind.the-variants.{Pan1, Pic1, Txt1, Wnd1, Ali1}
-use Rattle.strip_records.specs.declared.kind.KindFound.{KindFound}
-use Rattle.strip_records.specs.declared.kind.KindFound.the-variants.{Is, Other}
+use Rattle.strip_records.specs.declared.kind.KindFound.the-variants.{Is}
 use Rattle.strip_records.specs.declared.record.Record.{Record}
-use Rattle.strip_read.specs.declared.read.Header.{Header}
+use Rattle.strip_header.specs.declared.Header.{Header}
 use Rattle.strip_read.specs.declared.read.SectionRead.{SectionRead}
-use Rattle.strip_read.specs.declared.read.Section.the-variants as Sections
+use Rattle.strip_header.specs.declared.Section.the-variants as Sections
 use Rattle.strip_write.proofs.Steps.{letters-bytes, size-parts}
 use Rattle.strip.proofs.BackKinds.{GoodWhole, BodyBack, readRecord, body-back}
 

@@ -1,18 +1,17 @@
 -- A body that a write lets through is read back, kind by kind, anywhere in a buffer.
 use mathlib.Core.Path.{_≡_, refl, sym, ap, _∙_}
-use Prim.Native.Nat.{ℕ, _+_, _-_, _*_, _/_, _%_, _^_, _≤_, _<_}
+use Prim.Native.Nat.{ℕ, _+_, _-_, _*_, _/_, _≤_}
 use native.Mathlib.Omega.{arith}
-use mathlib.Core.List.{List, [], _∷_, _++_}
+use mathlib.Core.List.{List}
 use lib.ListN.{length, take, drop}
 use lib.Seq.{take-append-seam}
 use Rattle.core.specs.Taken.{advanced, over}
 use Rattle.core_checks.specs.Checks.{parsedOf, unlessRefused}
 use Rattle.core.specs.declared.cursor.ByteOrder.{ByteOrder}
 use Rattle.core.specs.declared.cursor.Cursor.{Cursor}
-use Rattle.core.specs.declared.cursor.Place.{Place}
 use Rattle.core.specs.declared.cursor.Place.the-variants.{At}
 use Rattle.core_checks.specs.declared.checks.Parsed.the-variants as Parseds
-use Rattle.core.proofs.Cursors.{pos-advanced, advanced-more}
+use Rattle.core.proofs.Cursors.{pos-advanced}
 use Rattle.core.specs.Lists.{numbersAt}
 use Rattle.core.proofs.Lists.{length-numbers}
 use Rattle.core.proofs.Back.{Holds, split, Fit}
@@ -20,25 +19,26 @@ use Rattle.pane_read.specs.Pane.{encodePane}
 use Rattle.pane.specs.Body.{paneRead}
 use Rattle.pane.proofs.Cleared.{Good, sound}
 use Rattle.pane.proofs.Back.{readBack, length-pane, pane-back, texts-back}
-use Rattle.picture_fields.specs.Picture.{blankPicture, quadsOf, pictureQuads, pictureTaken, pictureLength, encodePicture}
+use Rattle.picture_fields.specs.Picture.{blankPicture, pictureQuads, pictureLength, encodePicture}
 use Rattle.picture.specs.Body as picture
 use Rattle.picture_fields.specs.declared.PicturePane.{PicturePane}
 use Rattle.picture.proofs.Back as picture-laws
 use Rattle.text_box_read.specs.TextBox.{blankTextBox}
-use Rattle.text_box_read.specs.Parts.{unitsOf, linesOf, textBoxUnits, textBoxLines}
+use Rattle.text_box_parts.specs.Parts.{unitsOf, linesOf}
+use Rattle.text_box_read.specs.TextBox.{textBoxUnits, textBoxLines}
 use Rattle.text_box_caption.specs.Caption.{labelOf}
 use Rattle.text_box_write.specs.Written.{encodeTextBox}
 use Rattle.text_box.specs.Body as text-box
 use Rattle.text_box.specs.Same as text-box-same
-use Rattle.text_box_read.specs.declared.Text.{Text}
-use Rattle.text_box_read.specs.declared.Text.the-variants as text
-use Rattle.text_box_read.specs.declared.LineTable.{LineTable}
-use Rattle.text_box_read.specs.declared.LineTable.the-variants as line
+use Rattle.text_box_parts.specs.declared.Text.{Text}
+use Rattle.text_box_parts.specs.declared.Text.the-variants as text
+use Rattle.text_box_parts.specs.declared.LineTable.{LineTable}
+use Rattle.text_box_parts.specs.declared.LineTable.the-variants as line
 use Rattle.text_box_read.specs.declared.TextBoxPane.{TextBoxPane}
 use Rattle.text_box_read.specs.declared.TextBoxTaken.{TextBoxTaken}
-use Rattle.text_box_read.proofs.Pairs.{length-pairs}
+use Rattle.text_box_parts.proofs.Pairs.{length-pairs}
 use Rattle.text_box.proofs.Equal as text-box-laws
-use Rattle.window_read.specs.Window.{blankWindow, windowTaken, windowQuads, windowFrames}
+use Rattle.window_read.specs.Window.{blankWindow}
 use Rattle.window_write.specs.Write.{encodeWindow}
 use Rattle.window.specs.Body as window
 use Rattle.window_read.specs.declared.WindowPane.{WindowPane}

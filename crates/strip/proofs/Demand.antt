@@ -3,7 +3,7 @@
 -- depend on its place, that equal records have equal sections, that a section is read back, and the end.
 use mathlib.Core.Path.{_≡_, refl, sym, ap, _∙_, subst}
 use mathlib.Core.Logic.{_↔_}
-use Prim.Native.Nat.{ℕ, zero, suc, _+_, _-_, _%_, _≤_, _<_}
+use Prim.Native.Nat.{ℕ, _+_, _-_, _%_, _≤_}
 use native.Mathlib.Omega.{arith}
 use mathlib.Core.List.{List, [], _∷_, _++_, append-assoc, append-nil}
 use lib.ListN.{length, take, drop, replicate, length-append, length-take, length-replicate}
@@ -21,12 +21,12 @@ use Rattle.core.proofs.Back.{Holds}
 use Rattle.strip_records.specs.Whole.{Lists, Full, Whole}
 use Rattle.strip.specs.Same.{Same, readWhole}
 use Rattle.strip_records.specs.Typed.{Typed}
-use Rattle.strip_read.specs.Read.{endedWith, readSection, listsAfter}
+use Rattle.strip_read.specs.Read.{endedWith, listsAfter}
 use Rattle.strip_write.specs.Write.{sizeOf, section, sectionEnd, writeChecked, writeAnswer, writeOutput}
-use Rattle.strip.specs.Strip.{All, Run, step, runFrom, run, strip, SameAll, Gave, Gives}
+use Rattle.strip.specs.Strip.{All, Run, step, runFrom, run, strip, SameAll, Gives}
 use Rattle.strip_read.specs.declared.read.SectionRead.{SectionRead}
-use Rattle.strip_read.specs.declared.read.Section.{Section}
-use Rattle.strip_read.specs.declared.read.Section.the-variants as Sections
+use Rattle.strip_header.specs.declared.Section.{Section}
+use Rattle.strip_header.specs.declared.Section.the-variants as Sections
 use Rattle.strip_write.proofs.Cleared.{Accepts, write-cleared}
 use Rattle.strip.proofs.Same.{section-same, same-both}
 use Rattle.strip.proofs.BackKinds.{GoodWhole, readRecord}

@@ -9,7 +9,7 @@ use Rattle.core_checks.specs.Checks.{lengthChecked, bodyChecked, sectionChecked
 use Rattle.core.specs.declared.error.Refusal.the-variants.{UnexpectedEof}
 use Rattle.core.specs.declared.cursor.ByteOrder.the-variants.{Little}
 use Rattle.core_checks.specs.declared.checks.Parsed.the-variants as Parseds
-use Rattle.unicode.specs.Utf8.{table, takes, rowOf, fits, sequenceBy, sequence, walk, wellFormed}
+use Rattle.utf8.specs.Utf8.{walk, wellFormed}
 use Rattle.ui2d.specs.Parts.{vector2Taken, vector3Taken}
 use Rattle.pane_read.specs.Pane.{paneTaken}
 use Rattle.pane_checks.specs.Checks.{nameIll, textsChecked}
@@ -20,10 +20,11 @@ use Rattle.alignment.specs.Body.{alignmentRead}
 use Rattle.strip_records.specs.Kinds.{letterBytes, kindOf}
 use Rattle.strip_records.specs.Whole.{Lists, lists}
 use Rattle.strip_kinds.specs.Body.{bodyRead}
-use Rattle.strip_read.specs.Read.{readStart, sizeBad, headerTaken, finished, readBody, byKind, orRefused, refusedWith, endedWith, readAt, readSection}
+use Rattle.strip_read.specs.Read.{finished, readBody, byKind, orRefused, refusedWith, endedWith, readAt, readSection}
+use Rattle.strip_header.specs.Header.{readStart, sizeBad, headerTaken}
 use Rattle.strip_write.specs.Write.{sectionSize}
 use Rattle.strip_records.specs.declared.kind.Kind.the-variants.{Ali1}
-use Rattle.strip_read.specs.declared.read.Section.the-variants as Sections
+use Rattle.strip_header.specs.declared.Section.the-variants as Sections
 
 abbrev pub zeros : ℕ → List ℕ
 zeros n = replicate n 0

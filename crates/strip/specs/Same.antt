@@ -8,10 +8,10 @@ use Rattle.picture_fields.specs.Same.{SamePicture}
 use Rattle.text_box_caption.specs.Caption.{labelOf}
 use Rattle.text_box.specs.Same.{SameTextBox}
 use Rattle.text_box.specs.Same as text-box
-use Rattle.text_box_read.specs.declared.Text.{Text}
-use Rattle.text_box_read.specs.declared.Text.the-variants as text
-use Rattle.text_box_read.specs.declared.LineTable.{LineTable}
-use Rattle.text_box_read.specs.declared.LineTable.the-variants as line
+use Rattle.text_box_parts.specs.declared.Text.{Text}
+use Rattle.text_box_parts.specs.declared.Text.the-variants as text
+use Rattle.text_box_parts.specs.declared.LineTable.{LineTable}
+use Rattle.text_box_parts.specs.declared.LineTable.the-variants as line
 use Rattle.window.specs.Same.{SameWindow}
 use Rattle.strip_records.specs.Whole.{Lists, lists, noLists, Whole}
 use Rattle.strip_records.specs.declared.kind.Kind.{Kind}

@@ -1,7 +1,7 @@
 // A pane of any kind, and what the types say of one with its lists and label.
 pub use strip_records::record::Record;
 pub use strip_records::record::blank_record;
-ghost use Prim.Native.Nat.{_^_, _<_};
+ghost use Prim.Native.Nat.{_^_};
 ghost use Rattle.strip_records.specs.Whole.{whole};
 ghost use Rattle.strip_records.specs.Typed.{Below, Typed, TypedRecord};
 

@@ -10,7 +10,7 @@ use Rattle.core.specs.declared.cursor.Cursor.{Cursor}
 use Rattle.core.specs.declared.cursor.Place.the-variants.{At}
 use Rattle.core_checks.proofs.Checked.{SectionOk, section-started, list-cleared}
 use Rattle.strip_records.specs.Whole.{Lists, Full}
-use Rattle.strip_read.specs.Read.{readStart, sizeBad}
+use Rattle.strip_header.specs.Header.{readStart, sizeBad}
 
 pub or-false : (a b : Bool) → (a || b) ≡ false → (a ≡ false) × (b ≡ false)
 or-false true b e = (e, cc)

@@ -16,10 +16,11 @@ use Rattle.core.proofs.Runs.{cleared}
 use Rattle.strip_records.specs.Kinds.{kindOf}
 use Rattle.strip_records.specs.Whole.{Lists}
 use Rattle.strip_kinds.specs.Body.{bodyRead, bodyLists}
-use Rattle.strip_read.specs.Read.{readStart, sizeBad, headerTaken, finished, readBody, byKind, listsByKind, orRefused, refusedWith, endedWith, passedWith, readAt, listsAt, readSection, listsAfter}
+use Rattle.strip_read.specs.Read.{finished, readBody, byKind, listsByKind, orRefused, refusedWith, endedWith, passedWith, readAt, listsAt, readSection, listsAfter}
+use Rattle.strip_header.specs.Header.{readStart, sizeBad, headerTaken}
 use Rattle.strip_records.specs.declared.kind.Kind.{Kind}
 use Rattle.strip_records.specs.declared.kind.KindFound.the-variants.{Is, Other}
-use Rattle.strip_read.specs.declared.read.Header.{Header}
+use Rattle.strip_header.specs.declared.Header.{Header}
 use Rattle.strip_kinds.specs.declared.body.BodyRead.{BodyRead}
 use Rattle.strip_read.proofs.Cleared.{size-ok}
 

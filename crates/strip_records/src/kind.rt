@@ -1,6 +1,5 @@
 // The kinds of panes: letters, fixed length, lookup from letters.
 ghost use mathlib.Core.Path.{_≡_};
-ghost use Prim.Native.Nat.{_≤_};
 ghost use Rattle.strip_records.specs.Kinds.{lettersOf, lengthOf, kindOf};
 
 pub enum Kind {

@@ -14,7 +14,7 @@ use Rattle.pane_checks.specs.Checks.{namesChecked, reserveChecked}
 use Rattle.pane.proofs.Cleared.{Good, names-cleared, reserve-cleared}
 use Rattle.picture_fields.specs.Picture.{GoodPicture}
 use Rattle.picture.proofs.Cleared.{picture-cleared}
-use Rattle.text_box_read.specs.Parts.{labelPart}
+use Rattle.text_box_parts.specs.Parts.{labelPart}
 use Rattle.text_box_write.specs.Written.{Few}
 use Rattle.text_box.proofs.Cleared.{GoodLabel, GoodTextBox, label-length-cleared, label-name-cleared, text-box-early, text-box-cleared}
 use Rattle.window_write.specs.Write.{GoodWindow}

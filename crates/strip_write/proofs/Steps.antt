@@ -4,10 +4,6 @@ use Prim.Native.Nat.{ℕ, _+_, _≤_}
 use native.Mathlib.Omega.{arith}
 use Rattle.core.specs.Bytes.{le, bytesOf, padding}
 use Rattle.core.specs.declared.cursor.ByteOrder.the-variants.{Little}
-use Rattle.picture.specs.Body as picture
-use Rattle.text_box.specs.Body as text-box
-use Rattle.window.specs.Body as window
-use Rattle.alignment.specs.Body as alignment
 use Rattle.strip_records.specs.Kinds.{letterBytes, lettersOf}
 use Rattle.strip_write.specs.Write.{sectionSize}
 use Rattle.strip_records.specs.declared.kind.Kind.{Kind}

@@ -23,10 +23,10 @@ use Rattle.pane.proofs.Cleared.{sound}
 use Rattle.picture_fields.specs.Picture.{pictureChecked, GoodPicture}
 use Rattle.picture.specs.Body as picture
 use Rattle.picture_fields.specs.declared.PicturePane.{PicturePane}
-use Rattle.text_box_read.specs.Parts.{labelPart}
+use Rattle.text_box_parts.specs.Parts.{labelPart}
 use Rattle.text_box_read.specs.declared.TextBoxPane.{TextBoxPane}
 use Rattle.text_box_write.specs.Written.{Small, textBoxLength}
-use Rattle.text_box.specs.Checks.{labelLengthChecked, labelNameChecked, textBoxChecked}
+use Rattle.text_box_checks.specs.Checks.{labelLengthChecked, labelNameChecked, textBoxChecked}
 use Rattle.text_box.specs.Body as text-box
 use Rattle.text_box.proofs.Cleared.{small}
 use Rattle.window_read.specs.declared.WindowPane.{WindowPane}

@@ -13,8 +13,8 @@ use Rattle.pane_read.specs.Pane.{encodePane}
 use Rattle.pane_checks.specs.Checks.{namesChecked, reserveChecked}
 use Rattle.picture_fields.specs.Picture.{pictureChecked}
 use Rattle.picture.specs.Body as picture
-use Rattle.text_box_read.specs.Parts.{labelPart}
-use Rattle.text_box.specs.Checks.{labelLengthChecked, labelNameChecked, textBoxChecked}
+use Rattle.text_box_parts.specs.Parts.{labelPart}
+use Rattle.text_box_checks.specs.Checks.{labelLengthChecked, labelNameChecked, textBoxChecked}
 use Rattle.text_box_write.specs.Written.{textBoxLength}
 use Rattle.text_box.specs.Body as text-box
 use Rattle.window_write.specs.Write.{windowChecked}

@@ -14,8 +14,8 @@ use strip_records::kind::Kind;
 use strip_records::record::Record;
 use text_box::Label;
 use text_box::TextBoxPane;
-use text_box::checks::label_length_checked;
-use text_box::checks::label_name_checked;
+use text_box_checks::label_length_checked;
+use text_box_checks::label_name_checked;
 use window::WindowPane;
 ghost use mathlib.Core.List.{[], _++_};
 ghost use mathlib.Core.Path.{_≡_};
@@ -25,8 +25,8 @@ ghost use Rattle.core.specs.Bytes.{bytesOf, Room, Put};
 ghost use Rattle.core.specs.Taken.{start};
 ghost use Rattle.core_checks.specs.Checks.{lengthChecked, sectionChecked, sectionStart, endChecked};
 ghost use Rattle.pane_checks.specs.Checks.{namesChecked, reserveChecked};
-ghost use Rattle.text_box_read.specs.Parts.{labelPart};
-ghost use Rattle.text_box.specs.Checks.{labelLengthChecked, labelNameChecked};
+ghost use Rattle.text_box_parts.specs.Parts.{labelPart};
+ghost use Rattle.text_box_checks.specs.Checks.{labelLengthChecked, labelNameChecked};
 ghost use Rattle.strip_records.specs.Kinds.{letterBytes};
 ghost use Rattle.strip_records.specs.Whole.{whole, pan1, pic1, txt1, wnd1, ali1};
 ghost use Rattle.strip_write.specs.Write.{sectionSize, writeAnswer, writeOutput};
@@ -152,7 +152,7 @@ pub fn write_txt1(
     let length = out.len();
     let name = own.label;
     let p = labelled_checked(base, name, label, length, place);
-    let p = text_box::checks::text_box_checked(p, own, units, lines);
+    let p = text_box_checks::text_box_checked(p, own, units, lines);
     match p {
         Place::Refused(why) => Written::Refused(why),
         Place::At(_) => {

@@ -21,16 +21,16 @@ use Rattle.core.proofs.Runs.{seek-got}
 use Rattle.core.proofs.Lists.{numbers-here}
 use Rattle.core.proofs.Back.{Holds, split, holds-fits, length-all, number-back, label-back}
 use Rattle.ui2d.proofs.Parts.{Fits, numbers-at}
-use Rattle.text_box_read.specs.declared.Text.{Text}
-use Rattle.text_box_read.specs.declared.Text.the-variants as text
-use Rattle.text_box_read.specs.declared.Label.{Label}
-use Rattle.text_box_read.specs.declared.Label.the-variants as label
-use Rattle.text_box_read.specs.declared.LineTable.{LineTable}
-use Rattle.text_box_read.specs.declared.LineTable.the-variants as lines
-use Rattle.text_box_read.specs.declared.parts.TextTaken.{TextTaken}
-use Rattle.text_box_read.specs.declared.parts.LabelTaken.{LabelTaken}
-use Rattle.text_box_read.specs.declared.parts.LinesTaken.{LinesTaken}
-use Rattle.text_box_read.specs.Parts.{placeOf, Part, absent, present, textAt, textTaken, labelAt, labelTaken, linesAt, linesTaken, column}
+use Rattle.text_box_parts.specs.declared.Text.{Text}
+use Rattle.text_box_parts.specs.declared.Text.the-variants as text
+use Rattle.text_box_parts.specs.declared.Label.{Label}
+use Rattle.text_box_parts.specs.declared.Label.the-variants as label
+use Rattle.text_box_parts.specs.declared.LineTable.{LineTable}
+use Rattle.text_box_parts.specs.declared.LineTable.the-variants as lines
+use Rattle.text_box_parts.specs.declared.parts.TextTaken.{TextTaken}
+use Rattle.text_box_parts.specs.declared.parts.LabelTaken.{LabelTaken}
+use Rattle.text_box_parts.specs.declared.parts.LinesTaken.{LinesTaken}
+use Rattle.text_box_parts.specs.Parts.{placeOf, Part, absent, present, textAt, textTaken, labelAt, labelTaken, linesAt, linesTaken, column}
 use Rattle.text_box_write.specs.Written.{textOffset, partOffset, encodeText, encodeLabel, encodeLines}
 use Rattle.text_box_write.proofs.Columns.{length-column}
 use Rattle.text_box.proofs.Cleared.{GoodText, GoodLabel, GoodLines}

@@ -20,17 +20,18 @@ use Rattle.pane_read.specs.declared.PaneTaken.{PaneTaken}
 use Rattle.pane_read.proofs.Run.{pane-stays}
 use Rattle.pane.proofs.Calls.{texts-stay}
 use Rattle.pane.proofs.Cleared.{Good, names-cleared, reserve-cleared}
-use Rattle.text_box_read.specs.declared.Label.{Label}
-use Rattle.text_box_read.specs.declared.Label.the-variants as label
+use Rattle.text_box_parts.specs.declared.Label.{Label}
+use Rattle.text_box_parts.specs.declared.Label.the-variants as label
 use Rattle.text_box_read.specs.declared.TextBoxPane.{TextBoxPane}
 use Rattle.text_box_read.specs.declared.TextBoxTaken.{TextBoxTaken}
 use Rattle.text_box.specs.declared.body.TextBoxParsed.{TextBoxParsed}
-use Rattle.text_box_read.specs.Parts.{labelPart, textBoxUnits, textBoxLines, Standing}
+use Rattle.text_box_parts.specs.Parts.{labelPart}
+use Rattle.text_box_read.specs.TextBox.{textBoxUnits, textBoxLines, Standing}
 use Rattle.text_box_read.specs.TextBox.{textBoxTaken}
 use Rattle.text_box_write.specs.Written.{Small, textBoxLength}
-use Rattle.text_box.specs.Checks.{labelChecked, labelLengthChecked, labelNameChecked, textBoxChecked}
+use Rattle.text_box_checks.specs.Checks.{labelChecked, labelLengthChecked, labelNameChecked, textBoxChecked}
 use Rattle.text_box.specs.Body.{Blank, textBoxOwn, textBoxEnd, textBoxRead, unitsAfter, linesAfter, Reads, textBoxStart, textBoxWriteChecked}
-use Rattle.text_box_read.proofs.Run.{text-box-stays}
+use Rattle.text_box_read.proofs.Came.{text-box-stays}
 use Rattle.text_box_read.proofs.Came.{text-box-came}
 use Rattle.text_box.proofs.Cleared.{GoodTextBox, label-length-cleared, label-name-cleared, text-box-early, text-box-cleared, small}
 

@@ -12,16 +12,16 @@ use Rattle.core.specs.declared.cursor.Place.{Place}
 use Rattle.core.specs.declared.cursor.Place.the-variants.{At}
 use Rattle.core.proofs.Runs.{cleared}
 use Rattle.core_checks.proofs.Checked.{or-false, length-cleared, count-cleared}
-use Rattle.unicode.specs.Utf8.{wellFormed}
-use Rattle.unicode.specs.Utf16.{utf16Of, isWellFormed, wellFormed16}
-use Rattle.unicode.specs.declared.utf16.Utf16.{Utf16}
-use Rattle.unicode.specs.declared.utf16.Utf16.the-variants.{WellFormed, Unpaired}
-use Rattle.text_box_read.specs.declared.LineTable.{LineTable}
-use Rattle.text_box_read.specs.declared.LineTable.the-variants as lines
+use Rattle.utf8.specs.Utf8.{wellFormed}
+use Rattle.utf16.specs.Utf16.{utf16Of, isWellFormed, wellFormed16}
+use Rattle.utf16.specs.declared.Utf16.{Utf16}
+use Rattle.utf16.specs.declared.Utf16.the-variants.{WellFormed, Unpaired}
+use Rattle.text_box_parts.specs.declared.LineTable.{LineTable}
+use Rattle.text_box_parts.specs.declared.LineTable.the-variants as lines
 use Rattle.text_box_read.specs.declared.TextBoxPane.{TextBoxPane}
-use Rattle.text_box_read.specs.Parts.{Part, absent, present, textPart, labelPart, linePart}
+use Rattle.text_box_parts.specs.Parts.{Part, absent, present, textPart, labelPart, linePart}
 use Rattle.text_box_write.specs.Written.{Few, Small}
-use Rattle.text_box.specs.Checks.{labelLengthChecked, labelBad, labelNameChecked, linesChecked, unitsBad, bitBad, faultChecked, utf16Checked, textBoxChecked}
+use Rattle.text_box_checks.specs.Checks.{labelLengthChecked, labelBad, labelNameChecked, linesChecked, unitsBad, bitBad, faultChecked, utf16Checked, textBoxChecked}
 
 -- ---- what the checks leave of each part
 

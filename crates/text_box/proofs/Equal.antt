@@ -13,19 +13,20 @@ use Rattle.core.specs.declared.cursor.Place.the-variants.{At}
 use Rattle.core.proofs.Numbers.{length-bytes}
 use Rattle.core.proofs.Runs.{passed}
 use Rattle.core.proofs.Back.{Holds, split, holds-left, holds-fits, holds-part, length-all}
-use Rattle.unicode.specs.Utf8.{wellFormed}
-use Rattle.text_box_read.specs.declared.Label.the-variants as label
-use Rattle.text_box_read.specs.declared.LineTable.{LineTable}
-use Rattle.text_box_read.specs.declared.LineTable.the-variants as lines
-use Rattle.text_box_read.specs.declared.Text.{Text}
-use Rattle.text_box_read.specs.declared.Text.the-variants as text
+use Rattle.utf8.specs.Utf8.{wellFormed}
+use Rattle.text_box_parts.specs.declared.Label.the-variants as label
+use Rattle.text_box_parts.specs.declared.LineTable.{LineTable}
+use Rattle.text_box_parts.specs.declared.LineTable.the-variants as lines
+use Rattle.text_box_parts.specs.declared.Text.{Text}
+use Rattle.text_box_parts.specs.declared.Text.the-variants as text
 use Rattle.text_box_read.specs.declared.TextBoxPane.{TextBoxPane}
 use Rattle.text_box_read.specs.declared.TextBoxTaken.{TextBoxTaken}
-use Rattle.text_box_read.specs.Parts.{placeOf, Part, absent, present, textPart, labelPart, linePart, column, unitsOf, linesOf, textBoxUnits, textBoxLines}
+use Rattle.text_box_parts.specs.Parts.{placeOf, Part, absent, present, textPart, labelPart, linePart, column, unitsOf, linesOf}
+use Rattle.text_box_read.specs.TextBox.{textBoxUnits, textBoxLines}
 use Rattle.text_box_read.specs.TextBox.{textBoxTaken}
 use Rattle.text_box_write.specs.Written.{textEnd, labelEnd, encodeText, encodeLabel, encodeLines, encodeTextBox}
 use Rattle.text_box_caption.specs.Caption.{labelOf}
-use Rattle.text_box.specs.Checks.{labelChecked}
+use Rattle.text_box_checks.specs.Checks.{labelChecked}
 use Rattle.text_box.specs.Same.{SameTextBox}
 use Rattle.text_box_read.specs.Typed.{TypedTextBox}
 use Rattle.text_box_caption.proofs.Captions.{inside}

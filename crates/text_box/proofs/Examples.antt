@@ -3,7 +3,7 @@ use mathlib.Core.Path.{_≡_, refl}
 use mathlib.Core.List.{[], _∷_}
 use Prim.Native.Nat.{ℕ, _+_}
 use Rattle.core.specs.Bytes.{padding}
-use Rattle.text_box_read.specs.Parts.{present}
+use Rattle.text_box_parts.specs.Parts.{present}
 use Rattle.text_box_write.specs.Written.{partsLayout}
 use Rattle.text_box_write.specs.declared.write.Layout.{Layout}
 

@@ -6,7 +6,7 @@ use native.Mathlib.Omega.{arith}
 use Rattle.core.specs.declared.cursor.ByteOrder.{ByteOrder}
 use Rattle.core_write.proofs.Padding.{padding-shift}
 use Rattle.text_box_read.specs.declared.TextBoxPane.{TextBoxPane}
-use Rattle.text_box_read.specs.Parts.{placeOf, Part, absent, present, textPart, labelPart, linePart}
+use Rattle.text_box_parts.specs.Parts.{placeOf, Part, absent, present, textPart, labelPart, linePart}
 use Rattle.text_box_write.specs.Written.{partOffset, labelWidth, lineWidth, textEnd, labelEnd, encodeLabel, encodeLines, partsEncoded, partsLength, encodeTextBox, textBoxLength}
 
 module _ (p : ℕ) (h : p % 4 ≡ 0) where

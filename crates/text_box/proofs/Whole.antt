@@ -18,7 +18,7 @@ use Rattle.text_box_read.specs.declared.TextBoxPane.{TextBoxPane}
 use Rattle.text_box_read.specs.declared.TextBoxTaken.{TextBoxTaken}
 use Rattle.text_box_read.specs.TextBox.{measureKind, measureVector}
 use Rattle.text_box_write.specs.Fixed.{encodeFixed}
-use Rattle.text_box_read.specs.Parts.{placeOf, Part, absent, present, textPart, labelPart, linePart, perCharacterChecked}
+use Rattle.text_box_parts.specs.Parts.{placeOf, Part, absent, present, textPart, labelPart, linePart, perCharacterChecked}
 use Rattle.text_box_read.specs.TextBox.{fontMeasureOf, assembled, textBoxTaken}
 use Rattle.text_box_write.specs.Written.{Few, textOffset, partOffset, textWidth, labelWidth, lineWidth, textEnd, labelEnd, encodeText, encodeLabel, encodeLines, partsEncoded, partsLength, encodeTextBox, textBoxLength}
 use Rattle.text_box_read.specs.Typed.{TypedTextBox}

@@ -15,10 +15,11 @@ use Rattle.core_checks.specs.declared.checks.Written.{Written}
 use Rattle.pane_read.specs.Pane.{paneTaken, blankPane, encodePane}
 use Rattle.pane_checks.specs.Checks.{textsChecked, namesChecked, reserveChecked}
 use Rattle.pane_read.specs.declared.Pane.{Pane}
-use Rattle.text_box_read.specs.Parts.{labelPart, textBoxUnits, textBoxLines}
+use Rattle.text_box_parts.specs.Parts.{labelPart}
+use Rattle.text_box_read.specs.TextBox.{textBoxUnits, textBoxLines}
 use Rattle.text_box_read.specs.TextBox.{textBoxTaken, blankTextBox}
 use Rattle.text_box_write.specs.Written.{encodeTextBox, textBoxLength}
-use Rattle.text_box.specs.Checks.{labelChecked, labelLengthChecked, labelNameChecked, textBoxChecked}
+use Rattle.text_box_checks.specs.Checks.{labelChecked, labelLengthChecked, labelNameChecked, textBoxChecked}
 use Rattle.text_box_read.specs.declared.TextBoxPane.{TextBoxPane}
 use Rattle.text_box_read.specs.declared.TextBoxTaken.{TextBoxTaken}
 use Rattle.text_box.specs.declared.body.TextBoxParsed.{TextBoxParsed}

@@ -4,7 +4,7 @@ use mathlib.Core.Path.{_≡_}
 use Prim.Native.Nat.{ℕ}
 use mathlib.Core.List.{List}
 use Rattle.text_box_read.specs.declared.TextBoxPane.{TextBoxPane}
-use Rattle.text_box_read.specs.Parts.{textPart, labelPart, linePart}
+use Rattle.text_box_parts.specs.Parts.{textPart, labelPart, linePart}
 
 -- a text box with its lists and its label
 pub record Whole : Type 0 where

@@ -1,5 +1,4 @@
 // The body calls of a text box: any bytes are read or refused, any text box is written or refused.
-use crate::checks;
 use core::cursor::ByteOrder;
 use core::cursor::Cursor;
 use core::cursor::Place;
@@ -11,7 +10,6 @@ use pane_checks::checks::reserve_checked;
 use pane_checks::checks::texts_checked;
 use pane_read::Pane;
 use text_box_read::TextBoxPane;
-use text_box_read::parts;
 use text_box_write::write;
 ghost use mathlib.Core.Path.{_≡_};
 ghost use Prim.Native.Nat.{_+_, _^_, _≤_, _<_};
@@ -59,11 +57,11 @@ pub fn read(
     let label = text_box.label;
     let p2 = own.then;
     let p3 = texts_checked(p2, base, place);
-    let then = checks::label_checked(p3, data, label);
+    let then = text_box_checks::label_checked(p3, data, label);
     match then {
         Place::At(c) => {
             let end = c.pos;
-            parts::fill_text_box(order, data, own, units, lines);
+            text_box_read::fill_text_box(order, data, own, units, lines);
             TextBoxParsed {
                 answer: Parsed::Read { end },
                 base,
@@ -130,12 +128,12 @@ fn write_checked(
     text_box_read::typed_text_box(x);
     let name = x.label;
     let p1 = core_checks::checks::length_checked(Place::At(Cursor::start(place)), length);
-    let p2 = checks::label_length_checked(p1, name, label);
+    let p2 = text_box_checks::label_length_checked(p1, name, label);
     let p3 = core_checks::checks::body_checked(p2, length, place);
     let p4 = names_checked(p3, b);
-    let p5 = checks::label_name_checked(p4, name, label);
+    let p5 = text_box_checks::label_name_checked(p4, name, label);
     let p6 = reserve_checked(p5, b);
-    let p7 = checks::text_box_checked(p6, x, units, lines);
+    let p7 = text_box_checks::text_box_checked(p6, x, units, lines);
     end_checked(p7, x, units, lines, label, length, place)
 }
 

@@ -1,21 +1,20 @@
-// The text box: what is read and written of it beyond the base, its checks and its body calls.
+// The text box: what is read and written of it beyond the base, and its body calls.
 pub mod body;
-pub mod checks;
 pub mod fixed;
 
 pub use body::parse;
 pub use body::write;
 pub use text_box_caption::caption;
+pub use text_box_parts::Label;
+pub use text_box_parts::LineTable;
+pub use text_box_parts::Text;
+pub use text_box_parts::parts;
+pub use text_box_parts::units;
 pub use text_box_read::FontMeasure;
-pub use text_box_read::Label;
-pub use text_box_read::LineTable;
-pub use text_box_read::Text;
 pub use text_box_read::TextBoxPane;
 pub use text_box_read::TextBoxTaken;
 pub use text_box_read::blank_text_box;
 pub use text_box_read::measure_text_box;
-pub use text_box_read::parts;
 pub use text_box_read::typed_text_box;
-pub use text_box_read::units;
 pub use text_box_write::write::put_text_box;
 pub use text_box_write::write::text_box_length;

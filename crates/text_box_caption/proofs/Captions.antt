@@ -7,8 +7,8 @@ use native.Mathlib.Nat.{add-comm, add-sub-cancel-left}
 use borrow.Author.Tests.{le-leb, lt-leb}
 use lib.ListN.{length, take, drop}
 use Rattle.text_box_caption.specs.Caption.{within, byteAt, labelOf, labelPlace, captionOf, captionStart}
-use Rattle.text_box_read.specs.declared.Label.{Label}
-use Rattle.text_box_read.specs.declared.Label.the-variants as label
+use Rattle.text_box_parts.specs.declared.Label.{Label}
+use Rattle.text_box_parts.specs.declared.Label.the-variants as label
 
 module _ (s : List ℕ) (place long : ℕ) where
   pub inside : place ≤ length s → long ≤ length s - place → within s place long ≡ true

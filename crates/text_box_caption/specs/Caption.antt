@@ -4,8 +4,8 @@ use mathlib.Core.Bool.{Bool, cond, _&&_}
 use mathlib.Core.List.{List, []}
 use lib.ListN.{length, take, drop}
 use lib.Dec.{leb}
-use Rattle.text_box_read.specs.declared.Label.{Label}
-use Rattle.text_box_read.specs.declared.Label.the-variants as label
+use Rattle.text_box_parts.specs.declared.Label.{Label}
+use Rattle.text_box_parts.specs.declared.Label.the-variants as label
 
 -- place and length do not pass the strip
 abbrev pub within : List ℕ → ℕ → ℕ → Bool

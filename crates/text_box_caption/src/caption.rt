@@ -1,5 +1,5 @@
 // A label as a part of the strip, and the caption for the screen.
-use text_box_read::Label;
+use text_box_parts::Label;
 ghost use mathlib.Core.Path.{_≡_};
 ghost use Rattle.text_box_caption.specs.Caption.{byteAt, labelOf, labelPlace, captionOf, captionStart};
 

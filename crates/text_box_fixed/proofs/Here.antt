@@ -18,7 +18,7 @@ use Rattle.flags.specs.Fields.{originOf, textFlagsOf}
 use Rattle.flags.specs.declared.position.TextPosition.{TextPosition}
 use Rattle.flags.specs.declared.text.TextAlignment.{TextAlignment}
 use Rattle.flags.specs.declared.text.TextFlagsWord.{TextFlagsWord}
-use Rattle.ui2d.specs.Floats.{float}
+use Rattle.floats.specs.Floats.{float}
 use Rattle.ui2d.specs.declared.Vector2f.{Vector2f}
 use Rattle.ui2d.specs.declared.Color4u8.{Color4u8}
 use Rattle.ui2d.proofs.Here.{vector2There, colorThere, vector2-here, vector2-there, color-there}

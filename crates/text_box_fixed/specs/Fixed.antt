@@ -9,7 +9,7 @@ use Rattle.core.specs.declared.cursor.U16Taken.{U16Taken}
 use Rattle.core.specs.declared.cursor.U32Taken.{U32Taken}
 use Rattle.flags.specs.Enums.{alignmentOf}
 use Rattle.flags.specs.Fields.{originOf, textFlagsOf}
-use Rattle.ui2d.specs.Floats.{float}
+use Rattle.floats.specs.Floats.{float}
 use Rattle.ui2d.specs.Parts.{vector2Taken, colorTaken}
 use Rattle.ui2d.specs.declared.Vector2Taken.{Vector2Taken}
 use Rattle.ui2d.specs.declared.ColorTaken.{ColorTaken}

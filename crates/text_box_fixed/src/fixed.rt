@@ -7,7 +7,7 @@ use flags::position::TextPosition;
 use flags::text::TextAlignment;
 use flags::text::TextFlagsWord;
 use flags::text::TextPaneFlags;
-use ui2d::Binary32;
+use floats::Binary32;
 use ui2d::Color4u8;
 use ui2d::Vector2f;
 use ui2d::fixed;

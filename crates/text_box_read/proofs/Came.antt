@@ -6,9 +6,10 @@ use Prim.Native.Nat.{ℕ, _+_, _-_, _*_, _/_, _≤_}
 use native.Mathlib.Omega.{arith}
 use lib.ListN.{length}
 use lib.Dec.{eqb}
-use Rattle.core.specs.Taken.{Taken, moved, advanced, sought, u8Taken}
+use Rattle.core.specs.Taken.{Taken, moved, advanced, sought, stopIf, numberTaken, u8Taken}
 use Rattle.core.specs.Taken as core
 use Rattle.core.specs.Lists.{numbersTaken}
+use Rattle.core.specs.declared.error.Refusal.{Refusal}
 use Rattle.core.specs.declared.cursor.ByteOrder.{ByteOrder}
 use Rattle.core.specs.declared.cursor.Cursor.{Cursor}
 use Rattle.core.specs.declared.cursor.Place.{Place}
@@ -16,16 +17,20 @@ use Rattle.core.specs.declared.cursor.Place.the-variants.{At, Refused}
 use Rattle.core.proofs.Cursors.{pos-advanced, pos-moved}
 use Rattle.core.proofs.Runs.{cleared, seek-got}
 use Rattle.core.proofs.Lists.{number-here, numbers-here}
-use Rattle.text_box_read.specs.declared.Text.the-variants as text
-use Rattle.text_box_read.specs.declared.Label.{Label}
-use Rattle.text_box_read.specs.declared.Label.the-variants as label
-use Rattle.text_box_read.specs.declared.LineTable.the-variants as lines
-use Rattle.text_box_read.specs.declared.parts.TextTaken.{TextTaken}
-use Rattle.text_box_read.specs.declared.parts.LabelTaken.{LabelTaken}
-use Rattle.text_box_read.specs.declared.parts.LinesTaken.{LinesTaken}
-use Rattle.text_box_read.specs.Parts.{placeOf, textAt, textTaken, labelAt, labelTaken, linesAt, linesTaken, perCharacterChecked, Standing}
+use Rattle.flags.specs.Fields.{textFlagsOf}
+use Rattle.ui2d.specs.Parts.{vector2Taken, colorTaken}
+use Rattle.text_box_fixed.specs.Fixed.{headTaken, fontTaken, shadowTaken}
+use Rattle.text_box_parts.specs.declared.Text.the-variants as text
+use Rattle.text_box_parts.specs.declared.Label.{Label}
+use Rattle.text_box_parts.specs.declared.Label.the-variants as label
+use Rattle.text_box_parts.specs.declared.LineTable.the-variants as lines
+use Rattle.text_box_parts.specs.declared.parts.TextTaken.{TextTaken}
+use Rattle.text_box_parts.specs.declared.parts.LabelTaken.{LabelTaken}
+use Rattle.text_box_parts.specs.declared.parts.LinesTaken.{LinesTaken}
+use Rattle.text_box_parts.specs.Parts.{placeOf, textAt, textTaken, labelAt, labelTaken, linesAt, linesTaken, perCharacterChecked}
+use Rattle.text_box_read.specs.TextBox.{Standing}
 use Rattle.text_box_read.specs.TextBox.{assembled, textBoxTaken}
-use Rattle.text_box_read.proofs.Run.{came, no-came, sought-came, number-came, number-fits, numbers-came, numbers-fit, numbers-sought}
+use Rattle.text_box_parts.proofs.Run.{came, no-came, sought-came, number-came, number-fits, numbers-came, numbers-fit, numbers-sought}
 
 -- ---- text
 
@@ -138,3 +143,8 @@ text-box-came order s p body c e =
     let n = label-came s _ body _ (l .0) in
     let t = text-came order s _ body _ _ n in
     record { units = t .1; lines = l .1 }
+
+-- a run that was refused stays so
+pub text-box-stays : (order : ByteOrder) (s : List ℕ) (why : Refusal) (body : ℕ) → textBoxTaken order s (Refused why) body .then ≡ Refused why
+unfolding textBoxTaken headTaken fontTaken shadowTaken textTaken labelTaken linesTaken perCharacterChecked stopIf numberTaken vector2Taken colorTaken textFlagsOf
+text-box-stays order s why body = refl

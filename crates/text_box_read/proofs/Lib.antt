@@ -1,4 +1,1 @@
-pub mod Run
 pub mod Came
-pub mod Surrogates
-pub mod Pairs

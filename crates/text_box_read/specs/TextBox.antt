@@ -1,6 +1,9 @@
 -- A text box beyond the base: its read, and the blank one.
-use Prim.Native.Nat.{ℕ}
+use Prim.Native.Nat.{ℕ, _+_, _*_, _/_, _≤_}
+use mathlib.Core.Path.{_≡_}
 use mathlib.Core.List.{List}
+use lib.ListN.{length}
+use Rattle.core.specs.Lists.{numbersAt}
 use Rattle.core.specs.declared.cursor.ByteOrder.{ByteOrder}
 use Rattle.core.specs.declared.cursor.Place.{Place}
 use Rattle.flags.specs.Fields.{originOf, textFlagsOf}
@@ -8,27 +11,27 @@ use Rattle.flags.specs.declared.text.FontMeasureKind.{FontMeasureKind}
 use Rattle.flags.specs.declared.text.FontMeasureKind.the-variants as kind
 use Rattle.flags.specs.declared.text.TextAlignment.the-variants as alignment
 use Rattle.flags.specs.declared.text.TextPaneFlags.{TextPaneFlags}
-use Rattle.ui2d.specs.Floats.{float}
+use Rattle.floats.specs.Floats.{float}
 use Rattle.ui2d.specs.declared.Vector2f.{Vector2f}
 use Rattle.ui2d.specs.declared.Color4u8.{Color4u8}
 use Rattle.text_box_read.specs.declared.FontMeasure.{FontMeasure}
 use Rattle.text_box_read.specs.declared.FontMeasure.the-variants as measure
-use Rattle.text_box_read.specs.declared.Text.{Text}
-use Rattle.text_box_read.specs.declared.Text.the-variants as text
-use Rattle.text_box_read.specs.declared.Label.{Label}
-use Rattle.text_box_read.specs.declared.Label.the-variants as label
-use Rattle.text_box_read.specs.declared.LineTable.{LineTable}
-use Rattle.text_box_read.specs.declared.LineTable.the-variants as lines
+use Rattle.text_box_parts.specs.declared.Text.{Text}
+use Rattle.text_box_parts.specs.declared.Text.the-variants as text
+use Rattle.text_box_parts.specs.declared.Label.{Label}
+use Rattle.text_box_parts.specs.declared.Label.the-variants as label
+use Rattle.text_box_parts.specs.declared.LineTable.{LineTable}
+use Rattle.text_box_parts.specs.declared.LineTable.the-variants as lines
 use Rattle.text_box_read.specs.declared.TextBoxPane.{TextBoxPane}
 use Rattle.text_box_read.specs.declared.TextBoxTaken.{TextBoxTaken}
 use Rattle.text_box_fixed.specs.declared.fixed.HeadTaken.{HeadTaken}
 use Rattle.text_box_fixed.specs.declared.fixed.FontTaken.{FontTaken}
 use Rattle.text_box_fixed.specs.declared.fixed.ShadowTaken.{ShadowTaken}
-use Rattle.text_box_read.specs.declared.parts.TextTaken.{TextTaken}
-use Rattle.text_box_read.specs.declared.parts.LabelTaken.{LabelTaken}
-use Rattle.text_box_read.specs.declared.parts.LinesTaken.{LinesTaken}
+use Rattle.text_box_parts.specs.declared.parts.TextTaken.{TextTaken}
+use Rattle.text_box_parts.specs.declared.parts.LabelTaken.{LabelTaken}
+use Rattle.text_box_parts.specs.declared.parts.LinesTaken.{LinesTaken}
 use Rattle.text_box_fixed.specs.Fixed.{headTaken, fontTaken, shadowTaken}
-use Rattle.text_box_read.specs.Parts.{textTaken, labelTaken, linesTaken, perCharacterChecked}
+use Rattle.text_box_parts.specs.Parts.{textTaken, labelTaken, linesTaken, perCharacterChecked, unitsOf, linesOf}
 
 -- flag bit 12 decides whether the two floats are a font size or a scale; the record holds one or the other, and no flag
 abbrev pub fontMeasureOf : FontMeasureKind → Vector2f → FontMeasure
@@ -86,6 +89,18 @@ textBoxTaken order s p body =
       «lines_place» = table .place;
       then = perCharacterChecked (table .then) (bits .«is_per_character_transform») (shadow .«per_character_offset»);
     }
+
+-- the numbers that it gives
+abbrev pub textBoxUnits : ByteOrder → List ℕ → TextBoxTaken → List ℕ
+textBoxUnits order s t = unitsOf (t .«text_box» .text) (numbersAt order 2 (t .«text_box» .«text_length» / 2) s (t .«text_place»))
+
+abbrev pub textBoxLines : ByteOrder → List ℕ → TextBoxTaken → List ℕ
+textBoxLines order s t = linesOf order s (t .«text_box» .«line_table») (t .«lines_place»)
+
+-- these numbers stand in s
+pub record Standing (s : List ℕ) (t : TextBoxTaken) : Type 0 where
+  pub units : t .«text_box» .text ≡ text.Present → t .«text_place» + 2 * (t .«text_box» .«text_length» / 2) ≤ length s
+  pub lines : (count : ℕ) → t .«text_box» .«line_table» ≡ lines.Present count → t .«lines_place» + 1 + 8 * count ≤ length s
 
 abbrev zero2 : Vector2f
 zero2 = record { x = float 0; y = float 0 }

@@ -1,47 +1,32 @@
 // What a text box has beyond the base, and how it is read: 84 bytes, then its text, its label and its line table.
-pub mod parts;
-pub mod units;
-
 use core::cursor::ByteOrder;
 use core::cursor::Place;
 use flags::position::TextPosition;
 use flags::text::FontMeasureKind;
 use flags::text::TextAlignment;
 use flags::text::TextPaneFlags;
+use floats::Binary32;
 use text_box_fixed::fixed;
 use text_box_fixed::fixed::FontTaken;
 use text_box_fixed::fixed::HeadTaken;
 use text_box_fixed::fixed::ShadowTaken;
-use ui2d::Binary32;
+use text_box_parts::Label;
+use text_box_parts::LineTable;
+use text_box_parts::Text;
+use text_box_parts::parts;
 use ui2d::Color4u8;
 use ui2d::Vector2f;
 ghost use mathlib.Core.Path.{_≡_};
 ghost use Prim.Native.Nat.{_^_, _≤_, _<_};
-ghost use Rattle.text_box_read.specs.TextBox.{fontMeasureOf, blankTextBox, assembled, textBoxTaken};
+ghost use lib.ListN.{length};
+ghost use Rattle.core.specs.Taken.{over};
+ghost use Rattle.text_box_read.specs.TextBox.{fontMeasureOf, blankTextBox, assembled, textBoxTaken, textBoxUnits, textBoxLines, Standing};
 ghost use Rattle.text_box_read.specs.Typed.{TypedMeasure, TypedTextBox};
 
 // Flag bit 12 decides which of the two it is.
 pub enum FontMeasure {
     Size(Vector2f),
     Scale(Vector2f),
-}
-
-// Its units are a lent list.
-pub enum Text {
-    Absent,
-    Present,
-}
-
-// Where a label that was read stands in the strip; on a write its bytes are lent.
-pub enum Label {
-    Absent,
-    At { place: usize, length: usize },
-}
-
-// Its lines are a lent list of pairs: offset, width.
-pub enum LineTable {
-    Absent,
-    Present { count: u8 },
 }
 
 pub struct TextBoxPane {
@@ -168,6 +153,25 @@ pub fn measure_text_box(order: ByteOrder, data: &[u8], p: Place, body: usize) ->
         lines_place: lines_taken.place,
         then,
     }
+}
+
+// The units and the lines of a text box whose read came through, at the front of the lent lists.
+pub fn fill_text_box(
+    order: ByteOrder,
+    data: &[u8],
+    t: TextBoxTaken,
+    units: &mut [u16],
+    lines: &mut [u32],
+)
+    requires { ⌜ Standing (now «data») t × (32767 ≤ length (now units)) × (510 ≤ length (now lines)) ⌝ }
+    ensures { λ _. ⌜ (now (units .exit) ≡ over (textBoxUnits order (now («data» .entry)) t) (now (units .entry))) × (now (lines .exit) ≡ over (textBoxLines order (now («data» .entry)) t) (now (lines .entry))) ⌝ }
+{
+    let x = t.text_box;
+    let text = x.text;
+    let table = x.line_table;
+    let n = (x.text_length / 2) as usize;
+    parts::fill_units(order, data, text, t.text_place, n, units);
+    parts::fill_lines(order, data, table, t.lines_place, lines);
 }
 
 fn no_color() -> Color4u8

@@ -9,7 +9,7 @@ use lib.Seq.{drop-cons, take-all}
 use Rattle.core.specs.Bytes.{bytesOf, bytesOfAll}
 use Rattle.core.specs.declared.cursor.ByteOrder.{ByteOrder}
 use Rattle.core_write.proofs.Puts.{all-append}
-use Rattle.text_box_read.specs.Parts.{pairs, column}
+use Rattle.text_box_parts.specs.Parts.{pairs, column}
 
 column-suc : (l : List ℕ) (k n : ℕ) → column l k (suc n) ≡ column l k n ++ (getD l (k + 2 * n) 0 ∷ [])
 unfolding column

@@ -9,7 +9,7 @@ use Rattle.core_write.proofs.Puts.{_then_, put-as}
 use Rattle.text_box_read.specs.declared.TextBoxPane.{TextBoxPane}
 use Rattle.text_box_write.specs.declared.write.Layout.{Layout}
 use Rattle.text_box_write.specs.Fixed.{encodeFixed}
-use Rattle.text_box_read.specs.Parts.{placeOf, Part, textPart, labelPart, linePart}
+use Rattle.text_box_parts.specs.Parts.{placeOf, Part, textPart, labelPart, linePart}
 use Rattle.text_box_write.specs.Written.{textWidth, labelWidth, lineWidth, textEnd, labelEnd, encodeText, encodeLabel, encodeLines, partsLength, partsLayout, partsEncoded, layoutOf, textBoxLength, encodeTextBox}
 
 module _ (body p n : ℕ) (found name table : Part) (l : 8 ≤ body) (e : p ≡ body + 76) where

@@ -7,7 +7,7 @@ use Rattle.core.specs.declared.cursor.ByteOrder.{ByteOrder}
 use Rattle.text_box_read.specs.declared.TextBoxPane.{TextBoxPane}
 use Rattle.text_box_write.specs.declared.write.Layout.{Layout}
 use Rattle.text_box_write.specs.Fixed.{encodeFixed}
-use Rattle.text_box_read.specs.Parts.{placeOf, Part, absent, present, textPart, labelPart, linePart, column}
+use Rattle.text_box_parts.specs.Parts.{placeOf, Part, absent, present, textPart, labelPart, linePart, column}
 
 -- ---- widths: an absent part has no bytes and no aligning
 

@@ -6,8 +6,6 @@ use text_box_read::FontMeasure;
 use text_box_read::TextBoxPane;
 use ui2d::Vector2f;
 ghost use mathlib.Core.Path.{_≡_};
-ghost use Prim.Native.Nat.{_+_, _≤_};
-ghost use lib.ListN.{length};
 ghost use Rattle.core.specs.Bytes.{Room, Put};
 ghost use Rattle.text_box_read.specs.TextBox.{measureKind, measureVector};
 ghost use Rattle.text_box_write.specs.Fixed.{encodeIndices, encodeStyle, encodeFont, encodeShadow, encodeFixed};

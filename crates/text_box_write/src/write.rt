@@ -2,15 +2,15 @@
 use crate::fixed;
 use core::cursor::ByteOrder;
 use core_write::writer;
-use text_box_read::Label;
-use text_box_read::LineTable;
-use text_box_read::Text;
+use text_box_parts::Label;
+use text_box_parts::LineTable;
+use text_box_parts::Text;
 use text_box_read::TextBoxPane;
 ghost use mathlib.Core.Path.{_≡_};
 ghost use Prim.Native.Nat.{_+_, _*_, _/_, _^_, _≤_, _<_};
 ghost use lib.ListN.{length};
 ghost use Rattle.core.specs.Bytes.{bytesOfAll, Room, Put};
-ghost use Rattle.text_box_read.specs.Parts.{present, textPart, labelPart, linePart, column};
+ghost use Rattle.text_box_parts.specs.Parts.{present, textPart, labelPart, linePart, column};
 ghost use Rattle.text_box_write.specs.Written.{Few, textOffset, partOffset, textWidth, labelWidth, lineWidth, encodeText, encodeLabel, encodeLines, layoutOf, Small, textBoxLength, encodeTextBox};
 
 // The three offsets, and how many bytes the text box has beyond the base.

@@ -5,7 +5,7 @@ use Prim.Native.Nat.{ℕ}
 use lib.Ieee.{binary32, ofBits, nanBits}
 use Rattle.core.specs.Bytes.{bytesOf, numberAt, le, part, spelled}
 use Rattle.core.specs.declared.cursor.ByteOrder.the-variants.{Little}
-use Rattle.ui2d.specs.Floats.{float, valueOf, bitsOf}
+use Rattle.floats.specs.Floats.{float, valueOf, bitsOf}
 
 -- group M: the float 01 00 80 7F comes back the same
 abbrev bytes : List ℕ

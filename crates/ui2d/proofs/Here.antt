@@ -16,7 +16,7 @@ use Rattle.core.proofs.Cursors.{pos-start, pos-advanced, advanced-more}
 use Rattle.core.proofs.Numbers.{one}
 use Rattle.core.proofs.Lists.{numbers-here}
 use Rattle.core.proofs.Here.{numbers-start}
-use Rattle.ui2d.specs.Floats.{float}
+use Rattle.floats.specs.Floats.{float}
 use Rattle.ui2d.specs.Parts.{vector2Taken, vector3Taken, colorTaken, colorsTaken}
 use Rattle.ui2d.specs.Quads.{vectorAt, quadAt}
 use Rattle.ui2d.specs.declared.Vector2f.{Vector2f}

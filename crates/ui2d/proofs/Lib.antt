@@ -1,4 +1,3 @@
-pub mod Floats
 pub mod Parts
 pub mod Colors
 pub mod QuadBits

@@ -16,7 +16,7 @@ use Rattle.core.proofs.Numbers.{length-bytes}
 use Rattle.core.proofs.Back.{Holds, holds-fits, length-all, cut, number-at}
 use Rattle.core.proofs.Cursors.{pos-advanced}
 use Rattle.core.proofs.Lists.{numbers-here}
-use Rattle.ui2d.specs.Floats.{float}
+use Rattle.floats.specs.Floats.{float}
 use Rattle.ui2d.specs.Parts.{vector2Taken, vector3Taken, colorTaken, encodeVector2, encodeVector3, encodeColor, encodeQuad}
 use Rattle.ui2d.specs.Quads.{vectorBits, quadBits, vectorAt, quadAt}
 use Rattle.ui2d.specs.Typed.{TypedVector2, TypedVector3, TypedColor}

@@ -7,7 +7,7 @@ use Rattle.core.specs.declared.cursor.ByteOrder.{ByteOrder}
 use Rattle.core.specs.declared.cursor.Place.{Place}
 use Rattle.core.specs.declared.cursor.U8Taken.{U8Taken}
 use Rattle.core.specs.declared.cursor.U32Taken.{U32Taken}
-use Rattle.ui2d.specs.Floats.{float}
+use Rattle.floats.specs.Floats.{float}
 use Rattle.ui2d.specs.declared.Vector2f.{Vector2f}
 use Rattle.ui2d.specs.declared.Vector3f.{Vector3f}
 use Rattle.ui2d.specs.declared.Color4u8.{Color4u8}

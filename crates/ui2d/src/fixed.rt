@@ -1,11 +1,11 @@
 // Vectors, colours and quads at a place of lent bytes where all of theirs are there: no test for each number.
-use crate::Binary32;
 use crate::Color4u8;
 use crate::Quad;
 use crate::Vector2f;
 use crate::Vector3f;
 use core::cursor;
 use core::cursor::ByteOrder;
+use floats::Binary32;
 ghost use mathlib.Core.Path.{_≡_};
 ghost use Rattle.core.specs.Bytes.{Room};
 ghost use Rattle.core.specs.Taken.{start};

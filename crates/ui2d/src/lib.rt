@@ -1,28 +1,17 @@
-// Floats kept by their bits, vectors, colours and quads: at a place of lent bytes, and quads in a lent list of bits.
+// Vectors, colours and quads: at a place of lent bytes, and quads in a lent list of bits.
 pub mod fixed;
 pub mod quads;
 
 use core::cursor::ByteOrder;
 use core::cursor::Place;
+use floats::Binary32;
 ghost use mathlib.Core.Path.{_≡_};
 ghost use Prim.Native.Nat.{_+_, _≤_};
 ghost use lib.ListN.{length};
 ghost use Rattle.core.specs.Bytes.{Room, Put, splice};
-ghost use Rattle.ui2d.specs.Floats.{valueOf, bitsOf};
 ghost use Rattle.ui2d.specs.Parts.{vector2Taken, vector3Taken, colorTaken, colorsTaken, encodeVector2, encodeVector3, encodeColor, encodeColors, encodeQuad};
 ghost use Rattle.ui2d.specs.Quads.{vectorAt, vectorBits, quadAt, quadBits};
 ghost use Rattle.ui2d.specs.Typed.{TypedVector2, TypedVector3, TypedColor, TypedColors};
-
-// IEEE 754's binary32 interchange format: the 32 bits, a NaN's payload included.
-pub struct Binary32 {
-    pub bits: u32,
-}
-
-// What the bits stand for: a number (an infinity is one), or a NaN, which keeps its bits.
-pub enum FloatValue {
-    Number(f32),
-    NotANumber(u32),
-}
 
 pub struct Vector2f {
     pub x: Binary32,
@@ -69,45 +58,6 @@ pub struct ColorTaken {
 pub struct ColorsTaken {
     pub value: [Color4u8; 4],
     pub then: Place,
-}
-
-// ---- floats
-
-impl Binary32 {
-    pub fn value(self) -> FloatValue
-        ensures { λ r. ⌜ r ≡ valueOf self ⌝ }
-    {
-        let bits = self.bits;
-        if 2139095040 < bits % 2147483648 {
-            FloatValue::NotANumber(bits)
-        } else {
-            FloatValue::Number(f32::from_bits(bits))
-        }
-    }
-
-    pub fn of_value(v: FloatValue) -> Binary32
-        ensures { λ r. ⌜ r ≡ bitsOf v ⌝ }
-    {
-        match v {
-            FloatValue::Number(x) => {
-                if x != x {
-                    Binary32 { bits: 2143289344 }
-                } else {
-                    Binary32 {
-                        bits: f32::to_bits(x),
-                    }
-                }
-            }
-            FloatValue::NotANumber(bits) => Binary32 { bits },
-        }
-    }
-
-    // Through its value: the same bits.
-    pub fn through_value(self) -> Binary32
-        ensures { λ r. ⌜ r ≡ self ⌝ }
-    {
-        Binary32::of_value(self.value())
-    }
 }
 
 // ---- read

@@ -19,7 +19,8 @@ use Rattle.core_checks.specs.declared.checks.Parsed.the-variants as Parseds
 use Rattle.core.proofs.Runs.{cleared}
 use Rattle.strip_records.specs.Kinds.{kindOf}
 use Rattle.strip_kinds.specs.Body.{bodyRead}
-use Rattle.strip_read.specs.Read.{sizeBad, headerTaken, refusedWith, endedWith, passedWith, finished, readBody, byKind, orRefused, readAt, readSection}
+use Rattle.strip_read.specs.Read.{refusedWith, endedWith, passedWith, finished, readBody, byKind, orRefused, readAt, readSection}
+use Rattle.strip_header.specs.Header.{sizeBad, headerTaken}
 use Rattle.strip_records.specs.Whole.{Lists}
 use Rattle.strip_records.specs.declared.kind.KindFound.{KindFound}
 use Rattle.strip_records.specs.declared.kind.KindFound.the-variants.{Is, Other}

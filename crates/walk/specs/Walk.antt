@@ -4,8 +4,8 @@ use mathlib.Core.List.{List}
 use Rattle.core.specs.declared.cursor.ByteOrder.{ByteOrder}
 use Rattle.strip_read.specs.Read.{readSection}
 use Rattle.strip_records.specs.Whole.{Lists}
-use Rattle.strip_read.specs.declared.read.Section.{Section}
-use Rattle.strip_read.specs.declared.read.Section.the-variants.{End, Passed, Pane, Refused}
+use Rattle.strip_header.specs.declared.Section.{Section}
+use Rattle.strip_header.specs.declared.Section.the-variants.{End, Passed, Pane, Refused}
 use Rattle.strip_read.specs.declared.read.SectionRead.{SectionRead}
 use Rattle.walk.specs.declared.Step.{Step}
 

@@ -1,6 +1,6 @@
 // The walk over a strip keeps the strip's bytes with its next place.
 use core::cursor::ByteOrder;
-use strip_read::read::Section;
+use strip_header::Section;
 use strip_records::record::Record;
 ghost use mathlib.Core.Path.{_≡_};
 ghost use Rattle.strip_records.specs.Whole.{lists};

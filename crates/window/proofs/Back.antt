@@ -15,12 +15,13 @@ use Rattle.core.specs.declared.cursor.Place.the-variants.{At}
 use Rattle.core.proofs.Cursors.{advanced-zero}
 use Rattle.core.proofs.Back.{Holds, Fit, holds-fits, length-all, cut}
 use Rattle.core_write.proofs.Padding.{padding-small}
-use Rattle.window_read.specs.Window.{headTaken, contentTaken, framesTaken, windowOf, windowTaken, windowQuads, windowFrames}
+use Rattle.window_read.specs.Window.{contentTaken, framesTaken, windowOf, windowTaken, windowQuads, windowFrames}
+use Rattle.window_head.specs.Head.{headTaken}
 use Rattle.window_write.specs.Write.{GoodWindow, contentPadding, tableOffset, encodeHead, encodeContent, frameOffsets, encodeFrames, encodeWindow}
 use Rattle.window.specs.Same.{SameWindow}
 use Rattle.window_read.specs.Typed.{TypedWindow}
 use Rattle.window_read.specs.declared.WindowPane.{WindowPane}
-use Rattle.window_read.specs.declared.read.HeadTaken.{HeadTaken}
+use Rattle.window_head.specs.declared.HeadTaken.{HeadTaken}
 use Rattle.window_read.specs.declared.read.ContentTaken.{ContentTaken}
 use Rattle.window_read.specs.declared.read.WindowTaken.{WindowTaken}
 use Rattle.window.proofs.Lengths.{length-offsets, length-head, length-content}

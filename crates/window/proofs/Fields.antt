@@ -25,14 +25,15 @@ use Rattle.flags.specs.Fields.{windowFlagsNumber}
 use Rattle.flags.proofs.Fields.{window-flags-fit, window-flags-back}
 use Rattle.ui2d.specs.Typed.{TypedColors}
 use Rattle.ui2d.proofs.Colors.{length-colors, colors-at}
-use Rattle.window_read.specs.Window.{sidesTaken, headTaken, contentTaken, frameTaken, framesTaken}
+use Rattle.window_read.specs.Window.{contentTaken, frameTaken, framesTaken}
+use Rattle.window_head.specs.Head.{sidesTaken, headTaken}
 use Rattle.window_write.specs.Write.{GoodFlips, encodeSides, encodeBorders, encodeHead, encodeContent, frameOffsets, encodeFrame, encodeFrames}
 use Rattle.window_read.specs.Typed.{TypedWindow}
 use Rattle.window_read.specs.declared.WindowContent.{WindowContent}
 use Rattle.window_read.specs.declared.WindowPane.{WindowPane}
-use Rattle.window_read.specs.declared.read.SidesTaken.{SidesTaken}
-use Rattle.window_read.specs.declared.read.WindowHead.{WindowHead}
-use Rattle.window_read.specs.declared.read.HeadTaken.{HeadTaken}
+use Rattle.window_head.specs.declared.SidesTaken.{SidesTaken}
+use Rattle.window_head.specs.declared.WindowHead.{WindowHead}
+use Rattle.window_head.specs.declared.HeadTaken.{HeadTaken}
 use Rattle.window_read.specs.declared.read.ContentTaken.{ContentTaken}
 use Rattle.window_read.specs.declared.read.FrameTaken.{FrameTaken}
 use Rattle.window.proofs.Lengths.{length-sides, length-borders, length-frame}

@@ -1,4 +1,2 @@
 pub mod Filling
 pub mod Run
-pub mod Signed
-pub mod Here

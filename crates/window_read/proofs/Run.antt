@@ -23,7 +23,8 @@ use Rattle.core.proofs.Runs.{seek-stays}
 use Rattle.core.proofs.Lists.{numbers-here, numbers-stay, length-numbers}
 use Rattle.flags.specs.Enums.{flipNumber}
 use Rattle.ui2d.specs.Parts.{colorTaken, colorsTaken}
-use Rattle.window_read.specs.Window.{sidesTaken, headTaken, contentTaken, frameTaken, framesTaken, windowTaken, windowOf, Ahead}
+use Rattle.window_read.specs.Window.{contentTaken, frameTaken, framesTaken, windowTaken, windowOf, Ahead}
+use Rattle.window_head.specs.Head.{sidesTaken, headTaken}
 use Rattle.window_read.specs.declared.read.FrameTaken.{FrameTaken}
 
 -- ---- a turn over a frame, where n - i are left

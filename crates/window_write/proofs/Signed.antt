@@ -5,7 +5,7 @@ use mir.Syntax.{w16}
 use mir.Val.{SFits}
 use mir.Facts.{toZ-ofZ}
 use Rattle.core.specs.declared.cursor.ByteOrder.{ByteOrder}
-use Rattle.window_read.proofs.Signed.{passed}
+use Rattle.window_head.proofs.Signed.{passed}
 use Rattle.window_write.specs.Write.{encodeSides}
 
 pub sides-passed : (order : ByteOrder) (l r t b : ℤ) → SFits w16 l → SFits w16 r → SFits w16 t → SFits w16 b

@@ -4,7 +4,7 @@ use Rattle.exports_parts.proofs.parts.label_of.Statement.{statement}
 use Rattle.exports_parts.proofs.parts.label_of.Tie as tie
 use Rattle.exports_parts.proofs.parts.label_of.Reads as reads
 use Rattle.exports_parts.proofs.parts.label_of.Lts as lts
-use Rattle.flat_kinds.proofs.txt1.label_of.Reads as label-of-reads
+use Rattle.flat_text_box.proofs.txt1.label_of.Reads as label-of-reads
 
 shared-slice-read-if1 : tie.Need-shared-slice-read-if1
 shared-slice-read-if1 c = search needs

@@ -13,7 +13,7 @@ use Rattle.exports_answers.proofs.answers.refused.Reads as refused-reads
 use Rattle.exports_answers.proofs.answers.section.Reads as section-reads
 use Rattle.exports_read.proofs.sections.read_kind.Reads as read-kind-reads
 use Rattle.strip_records.proofs.kind.Kind.of_letters.Reads as of-letters-reads
-use Rattle.strip_read.proofs.read.take_header.Reads as take-header-reads
+use Rattle.strip_header.proofs.take_header.Reads as take-header-reads
 
 take-header-requires : tie.Need-take-header-requires
 take-header-requires c κs = search needs

@@ -12,7 +12,7 @@ use Rattle.exports_answers.proofs.answers.refused.Reads as refused-reads
 use Rattle.exports_answers.proofs.answers.section.Reads as section-reads
 use Rattle.exports_answers.proofs.answers.short_record.Reads as short-record-reads
 use Rattle.exports_read.proofs.reads.read_at.Reads as read-at-reads
-use Rattle.strip_read.proofs.read.read_start.Reads as read-start-reads
+use Rattle.strip_header.proofs.read_start.Reads as read-start-reads
 
 short-record-requires : tie.Need-short-record-requires
 short-record-requires c κs = search needs

@@ -1,6 +1,5 @@
 use Rattle.flat.specs.Base.{baseAt}
 use native.Mathlib.Omega.{arith}
-use borrow.Author.Needs.{needs}
 use Rattle.flat.proofs.base.base_of.Statement.{statement}
 use Rattle.flat.proofs.base.base_of.Tie as tie
 use Rattle.flat.proofs.base.base_of.Reads as reads

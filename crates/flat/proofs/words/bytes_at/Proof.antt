@@ -1,4 +1,4 @@
-use Prim.Native.Nat.{_-_, _≤_}
+use Prim.Native.Nat.{_-_}
 use lib.ListN.{length}
 use Rattle.flat.proofs.Storing.{Loaded, loaded-none, loaded-more, loaded-all}
 use borrow.Author.Needs.{needs}

@@ -1,5 +1,4 @@
 use Rattle.flat_kinds.proofs.Sides.{window-read}
-use Rattle.flat_kinds.specs.Own.{windowAt}
 use borrow.Author.Needs.{needs}
 use Rattle.flat_kinds.proofs.wnd1.window_of.Statement.{statement}
 use Rattle.flat_kinds.proofs.wnd1.window_of.Tie as tie

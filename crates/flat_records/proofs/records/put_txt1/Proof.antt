@@ -6,7 +6,7 @@ use Rattle.flat_records.proofs.records.put_txt1.Tie as tie
 use Rattle.flat_records.proofs.records.put_txt1.Reads as reads
 use Rattle.flat_records.proofs.records.put_txt1.Lts as lts
 use Rattle.flat_records.proofs.records.put_front.Reads as put-front-reads
-use Rattle.flat_kinds.proofs.txt1.put_text_box.Reads as put-text-box-reads
+use Rattle.flat_text_box.proofs.txt1.put_text_box.Reads as put-text-box-reads
 
 put-front-requires : tie.Need-put-front-requires
 put-front-requires c κs = search needs

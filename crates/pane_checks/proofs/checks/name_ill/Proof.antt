@@ -1,14 +1,14 @@
 use mathlib.Core.Path.{sym, _∙_}
 use Rattle.pane_checks.specs.Checks.{nameIll}
-use Rattle.unicode.proofs.Ascii.{ascii-formed}
+use Rattle.utf8.proofs.Ascii.{ascii-formed}
 use borrow.Author.Needs.{needs}
 use Rattle.pane_checks.proofs.checks.name_ill.Statement.{statement}
 use Rattle.pane_checks.proofs.checks.name_ill.Tie as tie
 use Rattle.pane_checks.proofs.checks.name_ill.Reads as reads
 use Rattle.pane_checks.proofs.checks.name_ill.Lts as lts
 use Rattle.pane_checks.proofs.checks.text_of.Reads as text-of-reads
-use Rattle.unicode.proofs.utf8.is_ascii.Reads as is-ascii-reads
-use Rattle.unicode.proofs.utf8.well_formed.Reads as well-formed-reads
+use Rattle.utf8.proofs.is_ascii.Reads as is-ascii-reads
+use Rattle.utf8.proofs.well_formed.Reads as well-formed-reads
 
 is-ascii-requires : tie.Need-is-ascii-requires
 is-ascii-requires c κs = search needs

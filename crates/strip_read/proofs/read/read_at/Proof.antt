@@ -12,7 +12,7 @@ use Rattle.strip_read.proofs.read.finish.Reads as finish-reads
 use Rattle.strip_read.proofs.read.passed.Reads as passed-reads
 use Rattle.strip_kinds.proofs.body.read_kind.Reads as read-kind-reads
 use Rattle.strip_read.proofs.read.refused.Reads as refused-reads
-use Rattle.strip_read.proofs.read.take_header.Reads as take-header-reads
+use Rattle.strip_header.proofs.take_header.Reads as take-header-reads
 
 take-header-requires : tie.Need-take-header-requires
 take-header-requires c κs = search needs

@@ -1,4 +1,4 @@
-use mathlib.Core.Path.{refl, sym, _∙_}
+use mathlib.Core.Path.{sym, _∙_}
 use Rattle.strip_records.specs.Whole.{lists}
 use Rattle.strip_read.proofs.Cleared.{read-started}
 use Rattle.strip_read.proofs.Steps.{read-refused, read-end, read-on}
@@ -9,7 +9,7 @@ use Rattle.strip_read.proofs.read.read_section.Reads as reads
 use Rattle.strip_read.proofs.read.read_section.Lts as lts
 use Rattle.strip_read.proofs.read.ended.Reads as ended-reads
 use Rattle.strip_read.proofs.read.read_at.Reads as read-at-reads
-use Rattle.strip_read.proofs.read.read_start.Reads as read-start-reads
+use Rattle.strip_header.proofs.read_start.Reads as read-start-reads
 use Rattle.strip_read.proofs.read.refused.Reads as refused-reads
 
 read-start-requires : tie.Need-read-start-requires

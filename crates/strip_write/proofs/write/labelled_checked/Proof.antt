@@ -8,8 +8,8 @@ use Rattle.core_checks.proofs.checks.section_checked.Reads as section-checked-r
 use Rattle.core.proofs.cursor.Cursor.start.Reads as start-reads
 use Rattle.pane_checks.proofs.checks.names_checked.Reads as names-checked-reads
 use Rattle.pane_checks.proofs.checks.reserve_checked.Reads as reserve-checked-reads
-use Rattle.text_box.proofs.checks.label_length_checked.Reads as label-length-checked-reads
-use Rattle.text_box.proofs.checks.label_name_checked.Reads as label-name-checked-reads
+use Rattle.text_box_checks.proofs.label_length_checked.Reads as label-length-checked-reads
+use Rattle.text_box_checks.proofs.label_name_checked.Reads as label-name-checked-reads
 
 start-requires : tie.Need-start-requires
 start-requires c κs = search needs

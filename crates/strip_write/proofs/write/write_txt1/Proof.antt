@@ -13,7 +13,7 @@ use Rattle.strip_write.proofs.write.end_checked.Reads as end-checked-re
 use Rattle.strip_write.proofs.write.labelled_checked.Reads as labelled-checked-reads
 use Rattle.strip_write.proofs.write.put_header.Reads as put-header-reads
 use Rattle.text_box.proofs.body.put_body.Reads as put-body-reads
-use Rattle.text_box.proofs.checks.text_box_checked.Reads as text-box-checked-reads
+use Rattle.text_box_checks.proofs.text_box_checked.Reads as text-box-checked-reads
 use Rattle.text_box_read.proofs.typed_text_box.Reads as typed-text-box-reads
 use Rattle.text_box_write.proofs.write.text_box_length.Reads as text-box-length-reads
 

@@ -46,7 +46,7 @@ use Rattle.core.specs.declared.cursor.ByteOrder.{ByteOrder}
 use Rattle.core.proofs.cursor.ByteOrder as O
 use Rattle.core.proofs.cursor.ByteOrder.Laws as O′
 use Rattle.strip_read.specs.Read.{listsAfter}
-use Rattle.strip_records.specs.Whole.{Lists, lists}
+use Rattle.strip_records.specs.Whole.{Lists}
 use Rattle.walk.specs.Walk.{stepAt}
 use Rattle.walk.specs.declared.Walk.{Walk}
 use Rattle.walk.specs.declared.Step.{Step}

@@ -1,2 +1,0 @@
-pub mod Utf16
-pub mod Utf8

@@ -1,0 +1,3 @@
+pub mod Scan
+pub mod Standard16
+pub mod Examples

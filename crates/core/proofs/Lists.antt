@@ -93,18 +93,18 @@ unfolding numbersAt
 length-numbers order w zero s at = refl
 length-numbers order w (suc n) s at = ap suc (length-numbers order w n s (at + w))
 
-numbers-more : (order : ByteOrder) (w n : ℕ) (s : List ℕ) (at : ℕ)
+pub numbers-suc : (order : ByteOrder) (w n : ℕ) (s : List ℕ) (at : ℕ)
     → numbersAt order w (suc n) s at ≡ numbersAt order w n s at ++ (numberAt order w s (at + w * n) ∷ [])
 unfolding numbersAt
-numbers-more order w zero s at = ap (λ (k : ℕ). numberAt order w s k ∷ []) (omega (arith, mul-zero w))
-numbers-more order w (suc n) s at =
+numbers-suc order w zero s at = ap (λ (k : ℕ). numberAt order w s k ∷ []) (omega (arith, mul-zero w))
+numbers-suc order w (suc n) s at =
     let e : at + w + w * n ≡ at + w * suc n = omega (arith, mul-suc w n) in
-    ap (λ (l : List ℕ). numberAt order w s at ∷ l) (rw (← e) (numbers-more order w n s (at + w)))
+    ap (λ (l : List ℕ). numberAt order w s at ∷ l) (rw (← e) (numbers-suc order w n s (at + w)))
 
 fill-step : (order : ByteOrder) (w i : ℕ) (s : List ℕ) (at v : ℕ) (out₀ : List ℕ) → i < length out₀ → v ≡ numberAt order w s (at + w * i)
     → set (numbersAt order w i s at ++ drop i out₀) i v ≡ numbersAt order w (i + 1) s at ++ drop (i + 1) out₀
 fill-step order w i s at v out₀ h e =
-    rw (e, drop-cons out₀ i 0 h, add-one, numbers-more, append-assoc)
+    rw (e, drop-cons out₀ i 0 h, add-one, numbers-suc, append-assoc)
     (set-at (numbersAt order w i s at) (getD out₀ i 0) (drop (suc i) out₀) (numberAt order w s (at + w * i)) i (length-numbers order w i s at))
 
 -- after i turns: i of the n numbers stand at the front

@@ -55,7 +55,7 @@ unfolding bytesOfAll
 all-append order w [] b = refl
 all-append order w (v ∷ a) b = rw (all-append order w a b) (sym (append-assoc (bytesOf order w v) (bytesOfAll order w a) (bytesOfAll order w b)))
 
-all-one : (order : ByteOrder) (w v : ℕ) → bytesOfAll order w (v ∷ []) ≡ bytesOf order w v
+pub all-one : (order : ByteOrder) (w v : ℕ) → bytesOfAll order w (v ∷ []) ≡ bytesOf order w v
 unfolding bytesOfAll
 all-one order w v = append-nil (bytesOf order w v)
 

@@ -5,8 +5,9 @@ use native.Mathlib.Omega.{arith}
 use mathlib.Core.List.{List, [], _∷_}
 use lib.IntN.{ℤ}
 use mir.Syntax.{w16}
-use mir.Val.{SFits, toZ, ofZ}
+use mir.Val.{SFits}
 use mir.Facts.{toZ-ofZ}
+use Rattle.window_head.proofs.Signed.{passed}
 use Rattle.core.specs.Bytes.{bitsOf}
 use Rattle.core.proofs.TwosComplement.{signed-fits}
 use Rattle.flags.specs.declared.window.WindowFlags.{WindowFlags}
@@ -14,10 +15,6 @@ use Rattle.window_read.specs.declared.WindowContent.{WindowContent}
 use Rattle.window_read.specs.declared.WindowPane.{WindowPane}
 use Rattle.flat.specs.Words.{Stored, halfAt, byteAt}
 use Rattle.flat_kinds.specs.Own.{sideAt, windowFlagsAt, contentAt, windowAt}
-
--- a number, as it is passed on
-abbrev pub passed : ℤ → ℤ
-passed z = toZ w16 (ofZ w16 z)
 
 -- a side and its word
 pub record Side (z : ℤ) (n : ℕ) : Type 0 where

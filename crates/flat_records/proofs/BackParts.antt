@@ -7,6 +7,7 @@ use mathlib.Core.Bool.{Bool, true, false}
 use mathlib.Core.List.{List, [], _∷_, _++_}
 use lib.ListN.{length, drop, getD, List·getD-append}
 use lib.Seq.{drop-at, getD-drop}
+use Rattle.ui2d.proofs.Colors.{corners}
 use Rattle.core.proofs.Back.{Holds, split}
 use Rattle.flags.specs.Packed.{flagOf}
 use Rattle.flags.specs.Enums.{horizontalOf, horizontalNumber, verticalOf, verticalNumber}
@@ -91,15 +92,6 @@ color-back {w} {p} v t a =
       byte-nth (colorWords v) a 2 (v .b) (omega arith) refl (t .b),
       byte-nth (colorWords v) a 3 (v .a) (omega arith) refl (t .a),
     )
-
--- a list of four is its corners
-corners : (vs : List Color4u8) → length vs ≡ 4 → colorAt vs 0 ∷ colorAt vs 1 ∷ colorAt vs 2 ∷ colorAt vs 3 ∷ [] ≡ vs
-corners [] h = absurd (omega arith)
-corners (a ∷ []) h = absurd (omega arith)
-corners (a ∷ b ∷ []) h = absurd (omega arith)
-corners (a ∷ b ∷ c ∷ []) h = absurd (omega arith)
-corners (a ∷ b ∷ c ∷ d ∷ []) h = refl
-corners (a ∷ b ∷ c ∷ d ∷ e ∷ r) h = absurd (omega arith)
 
 pub colors-back : {w : List ℕ} {p : ℕ} (vs : List Color4u8) → TypedColors vs → Holds w p (colorsWords vs) → colorsAt w p ≡ vs
 colors-back {w} {p} vs t a =

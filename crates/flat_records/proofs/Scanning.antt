@@ -4,11 +4,10 @@ use Prim.Native.Nat.{ℕ, suc, _+_, _-_, _≤_, _<_}
 use native.Mathlib.Nat.{add-zero}
 use native.Mathlib.Omega.{arith}
 use mathlib.Core.Bool.{cond}
-use mathlib.Core.List.{List, [], _∷_}
+use mathlib.Core.List.{List}
 use lib.ListN.{getD}
 use lib.Dec.{ltb}
 use borrow.Author.Tests.{lt-ltb, le-ltb}
-use Rattle.strip_records.specs.Typed.{Below}
 use Rattle.flat_records.specs.Below.{scanned}
 use Rattle.flat_records.specs.declared.bounds.Checked.the-variants.{Good, Bad}
 
@@ -43,9 +42,3 @@ unfolding scanned
 passed-all w {from} {count} {bound} {i} h all =
     let e : count - i ≡ 0 = omega arith in
     sym (h .rest ∙ ap (λ (n : ℕ). scanned w (from + i) n bound) e)
-
--- numbers that are each below n
-pub below-all : (n : ℕ) (l : List ℕ) → ((i : ℕ) → getD l i 0 < n) → Below n l
-unfolding Below
-below-all n [] f = tt
-below-all n (x ∷ xs) f = (f 0, below-all n xs (λ i. f (suc i)))

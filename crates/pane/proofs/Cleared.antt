@@ -1,8 +1,8 @@
 -- What the checks of a write tell, and what lets a pane that was read pass.
-use mathlib.Core.Path.{_≡_, refl}
+use mathlib.Core.Path.{_≡_}
 use Prim.Native.Nat.{ℕ, _+_, _^_, _≤_, _<_}
 use native.Mathlib.Omega.{arith}
-use mathlib.Core.Bool.{Bool, true, false, not, _||_}
+use mathlib.Core.Bool.{true, false, not, _||_}
 use mathlib.Core.List.{List}
 use lib.ListN.{take}
 use lib.Dec.{ltb}
@@ -13,16 +13,12 @@ use Rattle.core.specs.declared.cursor.Cursor.{Cursor}
 use Rattle.core.specs.declared.cursor.Place.{Place}
 use Rattle.core.specs.declared.cursor.Place.the-variants.{At}
 use Rattle.core.proofs.Runs.{cleared}
-use Rattle.core_checks.proofs.Checked.{BodyOk, body-started, end-cleared}
+use Rattle.core_checks.proofs.Checked.{BodyOk, body-started, end-cleared, or-false}
 use Rattle.utf8.specs.Utf8.{wellFormed}
 use Rattle.pane_read.specs.Pane.{Sound}
 use Rattle.pane_checks.specs.Checks.{nameIll, nameBad, namesChecked, reserveChecked}
 use Rattle.pane.specs.Body.{paneWriteChecked}
 use Rattle.pane_read.specs.declared.Pane.{Pane}
-
-or-false : (a b : Bool) → (a || b) ≡ false → (a ≡ false) × (b ≡ false)
-or-false true b e = (e, cc)
-or-false false b e = (refl, e)
 
 -- what check 9 leaves of a name
 pub record GoodName (w : ℕ) (bytes : List ℕ) (count : ℕ) : Type 0 where

@@ -1,10 +1,11 @@
 -- A picture that a write lets through is read back, anywhere in a buffer.
 use mathlib.Core.Path.{_≡_, refl, ap, _∙_}
-use Prim.Native.Nat.{ℕ, _+_, _*_, _/_, _%_, _^_, _≤_, _<_}
+use Prim.Native.Nat.{ℕ, _+_, _*_, _/_, _^_, _<_}
 use native.Mathlib.Nat.{add-zero}
 use native.Mathlib.Omega.{arith}
 use mathlib.Core.List.{List}
 use lib.ListN.{length, length-append}
+use Rattle.ui2d.proofs.QuadRuns.{count-fit, eight}
 use Rattle.core.specs.Bytes.{bytesOf, bytesOfAll}
 use Rattle.core.specs.Taken.{Taken, advanced}
 use Rattle.core.specs.Lists.{numbersTaken}
@@ -59,12 +60,6 @@ length-picture order x quads h =
 shape-fit : (x : ShapeIndex) → shapeByte x < 256 ^ 1
 shape-fit Absent = omega arith
 shape-fit (Index i) = omega arith
-
-count-fit : (n : ℕ) → n ≤ 2040 → n / 8 < 256 ^ 1
-count-fit n h = omega arith
-
-eight : (n : ℕ) → n % 8 ≡ 0 → 8 * (n / 8) ≡ n
-eight n h = omega arith
 
 -- where its parts stand
 record Parts (s : List ℕ) (c : Cursor) (order : ByteOrder) (x : PicturePane) (l : List ℕ) : Type 0 where

@@ -3,6 +3,7 @@ use mathlib.Core.Path.{_≡_, refl, sym, ap, _∙_, subst}
 use Prim.Native.Nat.{ℕ, _^_, _≤_, _<_}
 use mathlib.Core.List.{List}
 use lib.ListN.{length}
+use Rattle.pane_checks.proofs.Cleared.{texts-cleared}
 use Rattle.core.specs.Taken.{over}
 use Rattle.core_checks.specs.Checks.{parsedOf, unlessRefused}
 use Rattle.core.specs.declared.error.Refusal.{Refusal}
@@ -11,11 +12,9 @@ use Rattle.core.specs.declared.cursor.Cursor.{Cursor}
 use Rattle.core.specs.declared.cursor.Place.{Place}
 use Rattle.core.specs.declared.cursor.Place.the-variants.{At, Refused}
 use Rattle.core_checks.specs.declared.checks.Parsed.the-variants as Parseds
-use Rattle.core.proofs.Runs.{cleared}
 use Rattle.core_checks.proofs.Checked.{list-cleared}
 use Rattle.pane_read.specs.Pane.{paneTaken}
 use Rattle.pane_checks.specs.Checks.{textsChecked}
-use Rattle.pane_read.specs.declared.Pane.{Pane}
 use Rattle.pane_read.specs.declared.PaneTaken.{PaneTaken}
 use Rattle.pane_read.proofs.Run.{pane-stays}
 use Rattle.pane.proofs.Calls.{start-small, texts-stay}
@@ -26,10 +25,6 @@ use Rattle.picture.specs.declared.body.PictureParsed.{PictureParsed}
 use Rattle.picture.proofs.Came.{picture-stays, came-through}
 
 -- check 7 that was passed
-pub texts-cleared : (p : Place) (b : Pane) (body : ℕ) (c : Cursor) → textsChecked p b body ≡ At c → p ≡ At c
-unfolding textsChecked
-texts-cleared p b body c e = cleared p _ _ c (cleared _ _ _ c e .0) .0
-
 module _ (order : ByteOrder) (s : List ℕ) (p : Place) (body : ℕ) (b : PaneTaken) (x : PictureTaken) (q : Place)
     (e : b ≡ paneTaken order s p) (f : x ≡ pictureTaken order s (b .then)) (g : q ≡ textsChecked (x .then) (b .pane) body) where
   -- the quads may be filled

@@ -7,11 +7,6 @@ use lib.Dec.{lit≤}
 use Rattle.core.proofs.Back.{Fit}
 use Rattle.strip_records.specs.Typed.{Below}
 
-pub below-all : (n : ℕ) (l : List ℕ) → ((i : ℕ) → getD l i 0 < n) → Below n l
-unfolding Below
-below-all n [] f = tt
-below-all n (x ∷ xs) f = (f 0, below-all n xs (λ i. f (suc i)))
-
 -- numbers that fit w bytes, in the terms of the leaves
 pub below-fit : (w : ℕ) (l : List ℕ) → Below (256 ^ w) l → Fit w l
 unfolding Below Fit

@@ -1,20 +1,16 @@
 -- What the checks of the section read tell.
-use mathlib.Core.Path.{_≡_, refl}
+use mathlib.Core.Path.{_≡_}
 use Prim.Native.Nat.{ℕ, _+_, _-_, _%_, _≤_}
 use native.Mathlib.Omega.{arith}
-use mathlib.Core.Bool.{Bool, true, false, _||_}
+use mathlib.Core.Bool.{false, _||_}
 use lib.ListN.{length}
 use lib.Dec.{ltb}
 use borrow.Author.Tests.{ltb-false}
 use Rattle.core.specs.declared.cursor.Cursor.{Cursor}
 use Rattle.core.specs.declared.cursor.Place.the-variants.{At}
-use Rattle.core_checks.proofs.Checked.{SectionOk, section-started, list-cleared}
+use Rattle.core_checks.proofs.Checked.{SectionOk, section-started, list-cleared, or-false}
 use Rattle.strip_records.specs.Whole.{Lists, Full}
 use Rattle.strip_header.specs.Header.{readStart, sizeBad}
-
-pub or-false : (a b : Bool) → (a || b) ≡ false → (a ≡ false) × (b ≡ false)
-or-false true b e = (e, cc)
-or-false false b e = (refl, e)
 
 -- 1, 2 and 3
 pub read-started : (n p : ℕ) (l : Lists) (c : Cursor) → readStart n p (length (l .quads)) (length (l .units)) (length (l .lines)) (length (l .frames)) ≡ At c

@@ -3,11 +3,12 @@ use mathlib.Core.Path.{_≡_, refl, sym, ap, _∙_, subst}
 use Prim.Native.Nat.{ℕ, zero, suc, _+_, _*_, _/_, _^_, _≤_, _<_}
 use native.Mathlib.Nat.{add-zero}
 use native.Mathlib.Omega.{arith}
-use mathlib.Core.Bool.{Bool, true, false, _&&_}
+use mathlib.Core.Bool.{Bool, true, false}
 use mathlib.Core.List.{List, [], _∷_, _++_}
 use lib.ListN.{length, getD, length-replicate, replicate}
 use lib.Dec.{eqb}
 use borrow.Author.Tests.{ne-eqb}
+use Rattle.utf8.proofs.Tests.{and-none}
 use Rattle.core.specs.Bytes.{bytesOf, bytesOfAll, padding}
 use Rattle.core.specs.Taken.{Taken, advanced, moved, sought}
 use Rattle.core.specs.Lists.{numbersTaken, numbersAt}
@@ -81,10 +82,6 @@ Bounded w (present l) = Below w l
 abbrev pub Set : Part → Bool → Type 0
 Set absent line = Unit {0}
 Set (present l) line = line ≡ true
-
-pub and-none : (a : Bool) → (a && false) ≡ false
-and-none true = refl
-and-none false = refl
 
 -- ---- a seek, and the numbers at its place
 

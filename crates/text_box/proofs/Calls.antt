@@ -3,6 +3,7 @@ use mathlib.Core.Path.{_≡_, refl, sym, ap, _∙_}
 use Prim.Native.Nat.{ℕ, _+_, _^_, _≤_, _<_}
 use native.Mathlib.Omega.{arith}
 use mathlib.Core.List.{List}
+use Rattle.pane_checks.proofs.Cleared.{texts-cleared}
 use Rattle.core.specs.Taken.{start, stopIf, over}
 use Rattle.core_checks.specs.Checks.{lengthChecked, bodyChecked, bodyStart, listChecked, parsedOf, unlessRefused}
 use Rattle.core.specs.declared.error.Refusal.{Refusal}
@@ -41,10 +42,6 @@ pub label-cleared : (p : Place) (s : List ℕ) (l : Label) (c : Cursor) → labe
 unfolding labelChecked
 label-cleared p s label.Absent c e = e
 label-cleared p s (label.At place long) c e = cleared p _ _ c e .0
-
-pub texts-cleared : (p : Place) (b : Pane) (body : ℕ) (c : Cursor) → textsChecked p b body ≡ At c → p ≡ At c
-unfolding textsChecked
-texts-cleared p b body c e = cleared p _ _ c (cleared _ _ _ c e .0) .0
 
 pub label-stays : (why : Refusal) (s : List ℕ) (l : Label) → labelChecked (Refused why) s l ≡ Refused why
 unfolding labelChecked stopIf

@@ -25,7 +25,8 @@ use Rattle.text_box_read.specs.Typed.{TypedTextBox}
 use Rattle.text_box_write.proofs.Columns.{length-column}
 use Rattle.text_box.proofs.Cleared.{GoodText, GoodLabel, GoodLines}
 use Rattle.text_box.proofs.FixedBack.{length-fixed, FixedBack, fixed-back}
-use Rattle.text_box.proofs.Back.{Bounded, Set, and-none, readText, textPlace, readLabel, readTable, tablePlace, text-back, label-read, lines-read}
+use Rattle.text_box.proofs.Back.{Bounded, Set, readText, textPlace, readLabel, readTable, tablePlace, text-back, label-read, lines-read}
+use Rattle.utf8.proofs.Tests.{and-none}
 
 -- ---- lengths
 

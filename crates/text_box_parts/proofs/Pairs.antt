@@ -1,8 +1,7 @@
 -- Pairs of the numbers of two columns, as a read fills them.
 use mathlib.Core.Path.{_≡_, refl, sym, ap, _∙_}
 use mathlib.Core.List.{List, [], _∷_, _++_, append-assoc}
-use Prim.Native.Nat.{ℕ, zero, suc, _+_, _*_, _≤_, _<_}
-use native.Mathlib.Nat.{mul-suc, mul-zero}
+use Prim.Native.Nat.{ℕ, suc, _+_, _*_, _≤_, _<_}
 use native.Mathlib.Numerals.{add-one}
 use native.Mathlib.Omega.{arith}
 use lib.ListN.{length, drop, getD, set, length-set, length-append}
@@ -11,7 +10,7 @@ use Rattle.core.specs.Bytes.{numberAt}
 use Rattle.core.specs.Taken.{over}
 use Rattle.core.specs.Lists.{numbersAt}
 use Rattle.core.specs.declared.cursor.ByteOrder.{ByteOrder}
-use Rattle.core.proofs.Lists.{length-numbers}
+use Rattle.core.proofs.Lists.{length-numbers, numbers-suc}
 use Rattle.text_box_parts.specs.Parts.{pairs}
 
 pub length-pairs : (a b : List ℕ) → length a ≡ length b → length (pairs a b) ≡ 2 * length a
@@ -30,14 +29,6 @@ pairs-more (u ∷ a) [] x y e = absurd (omega arith)
 pairs-more (u ∷ a) (v ∷ b) x y e = ap (λ (l : List ℕ). u ∷ v ∷ l) (pairs-more a b x y (omega arith))
 
 -- the first i numbers from a place on, and one more
-numbers-suc : (order : ByteOrder) (w n : ℕ) (s : List ℕ) (at : ℕ)
-    → numbersAt order w (suc n) s at ≡ numbersAt order w n s at ++ (numberAt order w s (at + w * n) ∷ [])
-unfolding numbersAt
-numbers-suc order w zero s at = ap (λ (k : ℕ). numberAt order w s k ∷ []) (omega (arith, mul-zero w))
-numbers-suc order w (suc n) s at =
-    let e : at + w + w * n ≡ at + w * suc n = omega (arith, mul-suc w n) in
-    ap (λ (l : List ℕ). numberAt order w s at ∷ l) (rw (← e) (numbers-suc order w n s (at + w)))
-
 numbers-more : (order : ByteOrder) (w n : ℕ) (s : List ℕ) (at : ℕ)
     → numbersAt order w (n + 1) s at ≡ numbersAt order w n s at ++ (numberAt order w s (at + w * n) ∷ [])
 numbers-more order w n s at = rw add-one (numbers-suc order w n s at)

@@ -1,24 +1,17 @@
 -- The scan of UTF-16 unit by unit, where only the verdict is kept.
 use mathlib.Core.Path.{_≡_, refl, sym, _∙_}
 use mathlib.Core.List.{List, [], _∷_}
-use mathlib.Core.Bool.{Bool, true, false, not, _&&_}
+use mathlib.Core.Bool.{Bool, true, false, not}
 use Prim.Native.Nat.{ℕ, suc, _+_, _-_, _*_, _≤_, _<_}
 use native.Mathlib.Omega.{arith}
 use borrow.Author.Tests.{leb-true, lt-leb, not-false, not-true}
 use lib.Dec.{leb}
+use Rattle.utf8.proofs.Tests.{and-left, and-none}
 use Rattle.core.specs.Bytes.{numberAt}
 use Rattle.core.specs.Lists.{numbersAt}
 use Rattle.core.specs.declared.cursor.ByteOrder.{ByteOrder}
 use Rattle.utf16.specs.Utf16.{highSurrogate, lowSurrogate, scan, utf16Of, isWellFormed, wellFormed16}
 use Rattle.text_box_parts.specs.Parts.{breaks}
-
-and-left : (a b : Bool) → (a && b) ≡ true → a ≡ true
-and-left true b e = refl
-and-left false b e = e
-
-and-none : (a : Bool) → (a && false) ≡ false
-and-none true = refl
-and-none false = refl
 
 low-not-high : (u : ℕ) → lowSurrogate u ≡ true → highSurrogate u ≡ false
 unfolding lowSurrogate highSurrogate

@@ -16,7 +16,7 @@ use Rattle.ui2d.specs.declared.ColorsTaken.{ColorsTaken}
 use Rattle.ui2d.proofs.Parts.{length-color, color-at}
 
 -- a list of four is its corners
-corners : (vs : List Color4u8) → length vs ≡ 4 → colorAt vs 0 ∷ colorAt vs 1 ∷ colorAt vs 2 ∷ colorAt vs 3 ∷ [] ≡ vs
+pub corners : (vs : List Color4u8) → length vs ≡ 4 → colorAt vs 0 ∷ colorAt vs 1 ∷ colorAt vs 2 ∷ colorAt vs 3 ∷ [] ≡ vs
 corners [] h = absurd (omega arith)
 corners (a ∷ []) h = absurd (omega arith)
 corners (a ∷ b ∷ []) h = absurd (omega arith)

@@ -1,6 +1,6 @@
 -- Quads one after the other, between the bytes and a list of bits: one more of each.
 use mathlib.Core.Path.{_≡_, sym, ap, _∙_}
-use Prim.Native.Nat.{ℕ, zero, suc, _+_, _*_, _≤_, _<_}
+use Prim.Native.Nat.{ℕ, zero, suc, _+_, _*_, _/_, _%_, _^_, _≤_, _<_}
 use native.Mathlib.Nat.{add-zero, zero-add, suc-add, mul-zero, mul-suc}
 use native.Mathlib.Omega.{arith}
 use mathlib.Core.List.{List, _∷_, _++_}
@@ -60,3 +60,10 @@ quad-filled order s at n old l i f h k q e =
           rw (e, place, f .front, bits-quad (numbersAt order 4 8 s (at + 4 * (8 * i))) (length-numbers order 4 8 s (at + 4 * (8 * i))), next)
           (laid order s at (8 * i) 8 old (omega arith));
     }
+
+-- how many quads a list of floats has
+pub count-fit : (n : ℕ) → n ≤ 2040 → n / 8 < 256 ^ 1
+count-fit n h = omega arith
+
+pub eight : (n : ℕ) → n % 8 ≡ 0 → 8 * (n / 8) ≡ n
+eight n h = omega arith

@@ -29,3 +29,7 @@ between a b c = (
   λ e. (leb-true _ _ (and-left (leb a b) _ e), leb-true _ _ (and-right (leb a b) _ e)),
   λ h. and-both _ _ (le-leb _ _ (h .0)) (le-leb _ _ (h .1)),
 )
+
+pub and-none : (a : Bool) → (a && false) ≡ false
+and-none true = refl
+and-none false = refl

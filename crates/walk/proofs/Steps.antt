@@ -8,6 +8,7 @@ use mathlib.Core.List.{List}
 use lib.Dec.{ltb, eqb}
 use lib.ListN.{length}
 use borrow.Author.Tests.{ltb-false}
+use Rattle.core_checks.proofs.Checked.{or-false}
 use Rattle.core.specs.Taken.{start, numberTaken}
 use Rattle.core.specs.declared.cursor.ByteOrder.{ByteOrder}
 use Rattle.core.specs.declared.cursor.ByteOrder.the-variants.{Little}
@@ -26,7 +27,7 @@ use Rattle.strip_records.specs.declared.kind.KindFound.{KindFound}
 use Rattle.strip_records.specs.declared.kind.KindFound.the-variants.{Is, Other}
 use Rattle.strip_records.specs.declared.record.Record.{Record}
 use Rattle.strip_read.specs.declared.read.SectionRead.{SectionRead}
-use Rattle.strip_read.proofs.Cleared.{or-false, size-ok, read-started}
+use Rattle.strip_read.proofs.Cleared.{size-ok, read-started}
 use Rattle.walk.specs.Walk.{placeAfter, stepAt}
 use Rattle.walk.specs.declared.Step.{Step}
 

@@ -25,7 +25,8 @@ use Rattle.window_head.specs.declared.HeadTaken.{HeadTaken}
 use Rattle.window_read.specs.declared.read.ContentTaken.{ContentTaken}
 use Rattle.window_read.specs.declared.read.WindowTaken.{WindowTaken}
 use Rattle.window.proofs.Lengths.{length-offsets, length-head, length-content}
-use Rattle.window.proofs.Fields.{readBackContent, quads-fit, frames-fit, eight, headOf, seek-at, numbers-at, head-at, content-at, frames-at}
+use Rattle.window.proofs.Fields.{readBackContent, frames-fit, headOf, seek-at, numbers-at, head-at, content-at, frames-at}
+use Rattle.ui2d.proofs.QuadRuns.{count-fit, eight}
 
 -- what reading a window that was written gives: the same, with the counts of its lists
 unfoldable pub readBackWindow : WindowPane → List ℕ → List ℕ → WindowPane
@@ -132,7 +133,7 @@ module _ {s : List ℕ} (c : Cursor) (order : ByteOrder) (body : ℕ) (x : Windo
   content-here : _≡_ {A = ContentTaken} (contentTaken order s (At (advanced c 28))) (record { value = readBackContent (x .content) quads; then = At (advanced c 48) })
       × Holds s (c .pos + 48) (bytesOfAll order 4 quads)
   content-here =
-      content-at c order (x .content) quads (record { colors = t .colors; material = t .material }) (quads-fit (length quads) (g .«most-quads»)) (at-parts .content)
+      content-at c order (x .content) quads (record { colors = t .colors; material = t .material }) (count-fit (length quads) (g .«most-quads»)) (at-parts .content)
 
   quads-here : _≡_ {A = Taken (List ℕ)} (numbersTaken order 4 (8 * (length quads / 8)) s (At (advanced c 48)))
       (record { value = quads; then = At (advanced c (48 + 4 * length quads)) })

@@ -4,6 +4,7 @@ use Prim.Native.Nat.{ℕ, _+_, _*_, _^_, _≤_, _<_}
 use native.Mathlib.Omega.{arith}
 use mathlib.Core.List.{List}
 use lib.ListN.{length}
+use Rattle.pane_checks.proofs.Cleared.{texts-cleared}
 use Rattle.core.specs.Taken.{over}
 use Rattle.core_checks.specs.Checks.{bodyStart, listChecked, endChecked, parsedOf, unlessRefused}
 use Rattle.core.specs.declared.error.Refusal.{Refusal}
@@ -12,7 +13,6 @@ use Rattle.core.specs.declared.cursor.Cursor.{Cursor}
 use Rattle.core.specs.declared.cursor.Place.{Place}
 use Rattle.core.specs.declared.cursor.Place.the-variants.{At, Refused}
 use Rattle.core_checks.specs.declared.checks.Parsed.the-variants as Parseds
-use Rattle.core.proofs.Runs.{cleared}
 use Rattle.core_checks.proofs.Checked.{BodyOk, body-started, list-cleared, end-cleared, end-stays}
 use Rattle.pane_read.specs.Pane.{paneTaken}
 use Rattle.pane_checks.specs.Checks.{textsChecked, namesChecked, reserveChecked}
@@ -30,10 +30,6 @@ use Rattle.window_read.proofs.Run.{window-stays, window-ahead}
 use Rattle.window.proofs.Cleared.{window-cleared}
 
 -- ---- reading
-
-texts-cleared : (p : Place) (b : Pane) (body : ℕ) (c : Cursor) → textsChecked p b body ≡ At c → p ≡ At c
-unfolding textsChecked
-texts-cleared p b body c e = cleared p _ _ c (cleared _ _ _ c e .0) .0
 
 -- what a read leaves: its result and the two lists
 abbrev pub Left : ByteOrder → List ℕ → Place → ℕ → List ℕ → List ℕ → WindowParsed → List ℕ → List ℕ → Type 0

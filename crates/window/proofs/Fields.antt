@@ -48,14 +48,8 @@ readBackContent x quads = record {
 
 -- ---- numbers
 
-pub quads-fit : (n : ℕ) → n ≤ 2040 → n / 8 < 256 ^ 1
-quads-fit n h = omega arith
-
 pub frames-fit : (n : ℕ) → n ≤ 510 → n / 2 < 256 ^ 1
 frames-fit n h = omega arith
-
-pub eight : (n : ℕ) → n % 8 ≡ 0 → 8 * (n / 8) ≡ n
-eight n h = omega arith
 
 pub flip-number : (n : ℕ) → n ≤ 5 → flipNumber (flipOf n) ≡ n
 flip-number zero h = refl

@@ -13,7 +13,7 @@ use Rattle.core.specs.declared.error.Refusal.the-variants.{BadFlip}
 use Rattle.core.specs.declared.cursor.ByteOrder.{ByteOrder}
 use Rattle.core.specs.declared.cursor.ByteOrder.the-variants.{Little}
 use Rattle.core.specs.declared.cursor.Place.{Place}
-use Rattle.core_write.proofs.Puts.{take-more, all-append}
+use Rattle.core_write.proofs.Puts.{take-more, all-append, all-one}
 use Rattle.window_write.specs.Write.{flipsChecked, frameOffsets, encodeFrame, encodeFrames}
 
 -- ---- a list by pairs
@@ -53,10 +53,6 @@ offsets-one first zero = ap (λ (k : ℕ). k ∷ []) (omega arith)
 offsets-one first (suc i) =
     let e : first + 4 + 4 * i ≡ first + 4 * suc i = omega arith in
     ap (λ (r : List ℕ). first ∷ r) (offsets-one (first + 4) i ∙ ap (λ (k : ℕ). frameOffsets (first + 4) i ++ (k ∷ [])) e)
-
-all-one : (order : ByteOrder) (w v : ℕ) → bytesOfAll order w (v ∷ []) ≡ bytesOf order w v
-unfolding bytesOfAll
-all-one order w v = append-nil (bytesOf order w v)
 
 pub offsets-more : (order : ByteOrder) (first i v : ℕ) → v ≡ first + 4 * i
     → bytesOfAll order 4 (frameOffsets first i) ++ bytesOf order 4 v ≡ bytesOfAll order 4 (frameOffsets first (i + 1))

@@ -1,4 +1,4 @@
-use Rattle.flat_records.proofs.Scanning.{below-all}
+use Rattle.strip_records.proofs.Bounded.{below-all}
 use borrow.Author.Needs.{needs}
 use Rattle.flat_records.proofs.typed.typed_bytes.Statement.{statement}
 use Rattle.flat_records.proofs.typed.typed_bytes.Tie as tie

@@ -153,10 +153,11 @@ pub fn put_string8(out: &mut [u8], p: usize, s: FixedString8) -> usize
 
 // ---- padding to a multiple of 4 of the absolute place
 
+// How many zeros a place lacks, from its low two bits: the chip of the panel divides slowly.
 pub fn padding_at(p: usize) -> usize
     ensures { λ r. ⌜ r ≡ padding p ⌝ }
 {
-    (4 - p % 4) % 4
+    (4 - (p & 3)) & 3
 }
 
 pub fn put_padding(out: &mut [u8], p: usize) -> usize

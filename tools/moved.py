@@ -1,7 +1,8 @@
 #!/usr/bin/env python3
 """What a change moved: moved.py BASE [HEAD]. Compares the crates of two commits item by item (HEAD: the tracked files of the working tree, unless
 a commit is named) and prints, in Markdown, how many items stayed as they were, which were changed, are new or are gone, and the lines that git
-counts. Comments, imports and spaces do not count as a change of an item; stored input and output go by their bytes."""
+counts. Comments, imports and spaces of code, definitions and proofs are no change of an item; stored input and output go by their bytes. The
+proof of a function is one item, and so is an edit."""
 import collections
 import io
 import pathlib
@@ -12,8 +13,8 @@ import tarfile
 
 TOP = pathlib.Path(__file__).resolve().parent.parent
 STORED = "stored input and output"
-GROUPS = ["definitions", "contracts", "bodies of functions", "types and constants", "laws", "proofs of functions", "must-fail edits", STORED]
-NAME = re.compile(r"(?:(?:pub|abbrev|unfoldable)\s+)*(?:(?:record|module|data)\s+)?([^\s:(){}=]+)(?:\s[^=]*?)?\s:\s")
+GROUPS = ["definitions", "contracts", "bodies of functions", "types and constants", "names passed on", "laws", "proofs of functions", "must-fail edits", STORED]
+NAME = re.compile(r"(?:(?:pub|abbrev|unfoldable)\s+)*(?:(?:record|data)\s+)?([^\s:(){}=]+)(?:\s[^=]*?)?\s:\s")
 ITEM = re.compile(r"(\s*)(?:pub(?:\(crate\))?\s+)?(?:extern \"C\"\s+)?(fn|struct|enum|const|type|impl)(?:<[^>]*>)?\s+(\w+)")
 WORDS = re.compile(r"\s+")
 
@@ -36,13 +37,25 @@ def files(commit):
 
 
 def antt_blocks(text):
-    """Each declaration of a file of definitions or laws: its name, and its signature and clauses without comments."""
-    found, name = collections.defaultdict(list), None
+    """Each declaration of a file of definitions or laws: its name, and its signature and clauses without comments. One that stands in a module
+    begins with the module's head, whose parameters it takes."""
+    found, name, module, indent = collections.defaultdict(list), None, "", 0
     for line in text.split("\n"):
-        if line.startswith(("--", "use ", "pub mod ", "mod ")) or not line.strip():
+        bare = line.strip()
+        if not bare or bare.startswith(("--", "use ", "pub mod ", "mod ")):
             continue
-        head = NAME.match(line) if not line[0].isspace() else None
-        name = head.group(1) if head else name
+        depth = len(line) - len(line.lstrip())
+        if depth == 0:
+            module, indent = ("", None) if bare.startswith("module ") else ("", 0)
+        elif indent is None and module.endswith(" where"):
+            indent = depth
+        if indent is None:
+            module += " " + bare
+            continue
+        head = NAME.match(bare) if depth == indent else None
+        if head or bare.startswith("infix"):
+            name = head.group(1) if head else bare
+            found[name].append(module)
         found[name].append(re.sub(r"\s--\s.*", "", line))
     return {name: "\n".join(lines) for name, lines in found.items()}
 
@@ -53,8 +66,11 @@ def ends(line, indent, what, first):
 
 
 def code_items(text):
-    """Each function of a file of code as contract and body, and each type and constant."""
+    """Each function of a file of code as contract and body, each type and constant, and each name that is passed on."""
     found, owner, lines, at = {}, "", text.split("\n"), 0
+    for line in lines:
+        if line.startswith("pub use "):
+            found["names passed on", line[8:]] = line
     while at < len(lines):
         head = ITEM.match(lines[at])
         if not head:
@@ -68,7 +84,10 @@ def code_items(text):
         end = at
         while not ends(lines[end], indent, what, end == at):
             end += 1
-        item = [re.sub(r"//.*", "", line) for line in lines[at:end + 1]]
+        start = at
+        while start > 0 and lines[start - 1].strip().startswith("#["):
+            start -= 1
+        item = [re.sub(r"//.*", "", line) for line in lines[start:end + 1]]
         if what == "fn":
             alone = [i for i, line in enumerate(item) if line in (indent + "{", indent + "{}")]
             opens = alone[0] if alone else next(i + 1 for i, line in enumerate(item) if line.endswith(("{", "{}")))

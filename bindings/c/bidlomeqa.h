@@ -3,7 +3,7 @@
  *
  * A slice crosses as a pointer and a count of elements. The pointer is never NULL and is aligned for its element, also where the count is 0. Slices
  * that are written (without const) overlap no other. A call asks for nothing more: any numbers are answered, and nothing outside the slices is
- * touched. Each call returns one of the numbers END to PART below and, but for SHORT_ANSWER, puts ANSWER_WORDS words into `answer`; the comment of the
+ * touched. Each call returns one of the numbers END to BAD_ORDER below and, but for SHORT_ANSWER, puts ANSWER_WORDS words into `answer`; the comment of the
  * number says what they are. A record is RECORD_WORDS words. A refused call changes nothing but `answer`.
  *
  * A read lends four lists: quads (8 floats a quad), units (UTF-16), lines (offset and width a line, 2 floats) and frames (material and flip a frame),
@@ -211,6 +211,12 @@ extern "C" {
 /* How many words a record has. */
 #define BIDLOMEQA_RECORD_WORDS 116
 
+/* ---- the byte order of a call */
+
+#define BIDLOMEQA_LITTLE 0u
+
+#define BIDLOMEQA_BIG 1u
+
 /* ---- what a call returns, and what it puts into the answer's words */
 
 /* No section is left. The answer's words: 0, 0, 0. */
@@ -240,6 +246,9 @@ extern "C" {
 /* A label, or a caption from the strip: 0, its place, its length. A caption from the lent one: 1, 0, its length. */
 #define BIDLOMEQA_PART 8u
 
+/* The byte order is neither LITTLE nor BIG: its number, 0, 0. Nothing was read or written. */
+#define BIDLOMEQA_BAD_ORDER 9u
+
 /* How many words an answer has. */
 #define BIDLOMEQA_ANSWER_WORDS 3
 /* ---- end of what is made */
@@ -250,23 +259,25 @@ extern "C" {
 #define BIDLOMEQA_LINES_NEED 510
 #define BIDLOMEQA_FRAMES_NEED 510
 
-/* Reads the section at `place`: END, PASSED, PANE, REFUSED, SHORT_RECORD or SHORT_ANSWER. */
+/* `order` is LITTLE or BIG: the byte order of numbers of two or four bytes. Letters, names, labels, colours and single bytes have none. */
+
+/* Reads the section at `place`: END, PASSED, PANE, REFUSED, SHORT_RECORD, BAD_ORDER or SHORT_ANSWER. */
 uint64_t bidlomeqa_read_section(
-    const uint8_t *data, size_t data_length, size_t place,
+    uint64_t order, const uint8_t *data, size_t data_length, size_t place,
     uint32_t *quads, size_t quads_length, uint16_t *units, size_t units_length,
     uint32_t *lines, size_t lines_length, uint16_t *frames, size_t frames_length,
     uint64_t *record, size_t record_length, uint64_t *answer, size_t answer_length);
 
-/* Reads a body of the kind at `place`: PANE, REFUSED, SHORT_RECORD, BAD_WORD (no such kind) or SHORT_ANSWER. */
+/* Reads a body of the kind at `place`: PANE, REFUSED, SHORT_RECORD, BAD_WORD (no such kind), BAD_ORDER or SHORT_ANSWER. */
 uint64_t bidlomeqa_read_body(
-    uint64_t kind, const uint8_t *data, size_t data_length, size_t place,
+    uint64_t order, uint64_t kind, const uint8_t *data, size_t data_length, size_t place,
     uint32_t *quads, size_t quads_length, uint16_t *units, size_t units_length,
     uint32_t *lines, size_t lines_length, uint16_t *frames, size_t frames_length,
     uint64_t *record, size_t record_length, uint64_t *answer, size_t answer_length);
 
-/* Writes the record as a section at `place` of `out`: WRITTEN, REFUSED, SHORT_RECORD, BAD_WORD or SHORT_ANSWER. */
+/* Writes the record as a section at `place` of `out`: WRITTEN, REFUSED, SHORT_RECORD, BAD_WORD, BAD_ORDER or SHORT_ANSWER. */
 uint64_t bidlomeqa_write_section(
-    const uint64_t *record, size_t record_length,
+    uint64_t order, const uint64_t *record, size_t record_length,
     const uint32_t *quads, size_t quads_length, const uint16_t *units, size_t units_length,
     const uint32_t *lines, size_t lines_length, const uint16_t *frames, size_t frames_length,
     const uint8_t *label, size_t label_length, uint8_t *out, size_t out_length, size_t place,
@@ -274,7 +285,7 @@ uint64_t bidlomeqa_write_section(
 
 /* Writes the record's body at `place` of `out`, likewise. */
 uint64_t bidlomeqa_write_body(
-    const uint64_t *record, size_t record_length,
+    uint64_t order, const uint64_t *record, size_t record_length,
     const uint32_t *quads, size_t quads_length, const uint16_t *units, size_t units_length,
     const uint32_t *lines, size_t lines_length, const uint16_t *frames, size_t frames_length,
     const uint8_t *label, size_t label_length, uint8_t *out, size_t out_length, size_t place,

@@ -19,7 +19,7 @@ static const uint8_t no_label[1];
 static uint64_t read_section(const uint8_t *strip, size_t length, size_t place)
 {
     return bidlomeqa_read_section(
-        strip, length, place, quads, BIDLOMEQA_QUADS_NEED, units, BIDLOMEQA_UNITS_NEED, lines, BIDLOMEQA_LINES_NEED,
+        BIDLOMEQA_LITTLE, strip, length, place, quads, BIDLOMEQA_QUADS_NEED, units, BIDLOMEQA_UNITS_NEED, lines, BIDLOMEQA_LINES_NEED,
         frames, BIDLOMEQA_FRAMES_NEED, record, BIDLOMEQA_RECORD_WORDS, answer, BIDLOMEQA_ANSWER_WORDS);
 }
 
@@ -36,7 +36,7 @@ int main(void)
 
     record[BIDLOMEQA_TRANSLATION] = 0x3F800000; /* x = 1.0 */
     code = bidlomeqa_write_section(
-        record, BIDLOMEQA_RECORD_WORDS, quads, 0, units, 0, lines, 0, frames, 0, no_label, 0, strip, sizeof strip, 0,
+        BIDLOMEQA_LITTLE, record, BIDLOMEQA_RECORD_WORDS, quads, 0, units, 0, lines, 0, frames, 0, no_label, 0, strip, sizeof strip, 0,
         answer, BIDLOMEQA_ANSWER_WORDS);
     printf("written: %d, ends at %d\n", (int)code, (int)answer[0]);
     if (code != BIDLOMEQA_WRITTEN || strip[8 + 36 + 3] != 0x3F)

@@ -1,11 +1,16 @@
 //! One call of the library held against what must be answered.
+//!
+//! Bytes are handed in as nnbfl has them, little-endian. A big-endian run gives the library their mirror, and must get the same answers and records and,
+//! where it writes, the mirror of what nnbfl writes.
 use crate::fault::{Fault, Left};
+use crate::mirror;
 use crate::oracle::{self, Outcome};
 use crate::tally::{Case, Tally};
 use crate::whole::*;
 use bidlomeqa::calls::{self, ReadLists};
 use bidlomeqa::layout::*;
-use bidlomeqa::{Buffer, Kind};
+use bidlomeqa::{Buffer, ByteOrder, Kind};
+use std::borrow::Cow;
 
 const WORD: u64 = 0x5A5A_5A5A_5A5A_5A5A;
 const QUAD: u32 = 0xA5A5_A5A5;
@@ -82,8 +87,22 @@ fn hex(bytes: &[u8]) -> String {
 /// How long the lists are that a read lends.
 pub type Lengths = [usize; 4];
 
+/// Sections in a row: as nnbfl has them, and their mirror in a big-endian run.
+pub struct Strip {
+    little: Vec<u8>,
+    big: Option<Vec<u8>>,
+}
+
+impl Strip {
+    fn given(&self) -> &[u8] {
+        self.big.as_ref().unwrap_or(&self.little)
+    }
+}
+
 /// The comparison: the two sides' lists, outputs and counts.
 pub struct Comparison {
+    /// The byte order of every call.
+    pub order: u64,
     pub tally: Tally,
     pub fault: Fault,
     pub generator: &'static str,
@@ -92,14 +111,17 @@ pub struct Comparison {
     whole: Whole,
     buffer: Buffer,
     out: Vec<u8>,
+    /// What nnbfl's writes make of the output, and its mirror in a big-endian run.
     model: Vec<u8>,
+    big: Vec<u8>,
     before: Vec<u8>,
     scratch: Vec<u8>,
 }
 
 impl Comparison {
-    pub fn new(quiet: bool, fault: Fault) -> Self {
+    pub fn new(order: u64, quiet: bool, fault: Fault) -> Self {
         Self {
+            order,
             tally: Tally::new(quiet),
             fault,
             generator: "",
@@ -109,6 +131,7 @@ impl Comparison {
             buffer: Buffer::new(),
             out: Vec::new(),
             model: Vec::new(),
+            big: Vec::new(),
             before: Vec::new(),
             scratch: Vec::new(),
         }
@@ -122,11 +145,16 @@ impl Comparison {
     /// A body read with lists of these lengths.
     pub fn body_with(&mut self, kind: u64, data: &[u8], place: usize, lengths: Lengths) -> Outcome {
         let expected = oracle::read_body(kind, data, place, lengths, &mut self.whole);
-        let call = |lists: &mut ReadLists, words: &mut [u64], answer: &mut [u64]| calls::read_body(kind, data, place, lists, words, answer);
+        let Some(given) = self.given(data, || mirror::body(kind, data, place)) else { return expected };
+        let order = self.order;
+        let call = |lists: &mut ReadLists, words: &mut [u64], answer: &mut [u64]| calls::read_body(order, kind, &given, place, lists, words, answer);
         let case = Case { generator: self.generator, call: "read body", kind };
-        self.read(case, expected, lengths, call, || format!("kind {kind}, place {place}, {}", hex(data)));
+        self.read(case, expected, lengths, call, || format!("kind {kind}, place {place}, {}", hex(&given)));
+        if expected.0 == PANE && order == BIG {
+            self.labelled(&given);
+        }
         if expected.0 == PANE && self.tally.cases % 16 == 0 {
-            self.typed(case, data, place);
+            self.typed(case, &given, place);
         }
         expected
     }
@@ -138,12 +166,59 @@ impl Comparison {
 
     /// A section read with lists of these lengths.
     pub fn section_with(&mut self, data: &[u8], place: usize, lengths: Lengths) -> Outcome {
+        match self.given(data, || mirror::section(data, place)) {
+            Some(given) => self.section_given(data, &given, place, lengths),
+            None => oracle::read_section(data, place, lengths, &mut self.whole),
+        }
+    }
+
+    /// A section of a strip, read with full lists.
+    pub fn section_of(&mut self, strip: &Strip, place: usize) -> Outcome {
+        self.section_given(&strip.little, strip.given(), place, FULL)
+    }
+
+    fn section_given(&mut self, data: &[u8], given: &[u8], place: usize, lengths: Lengths) -> Outcome {
         let expected = oracle::read_section(data, place, lengths, &mut self.whole);
-        let call = |lists: &mut ReadLists, words: &mut [u64], answer: &mut [u64]| calls::read_section(data, place, lists, words, answer);
+        let order = self.order;
+        let call = |lists: &mut ReadLists, words: &mut [u64], answer: &mut [u64]| calls::read_section(order, given, place, lists, words, answer);
         let kind = data.get(place..).and_then(|s| LETTERS.iter().position(|l| s.starts_with(&l[..]))).unwrap_or(5) as u64;
         let case = Case { generator: self.generator, call: "read section", kind };
-        self.read(case, expected, lengths, call, || format!("place {place}, {}", hex(data)));
+        self.read(case, expected, lengths, call, || format!("place {place}, {}", hex(given)));
+        if expected.0 == PANE && order == BIG {
+            self.labelled(given);
+        }
         expected
+    }
+
+    // The bytes in the order of the run; none, and counted, where they have no mirror.
+    fn given<'a>(&mut self, data: &'a [u8], mirrored: impl Fn() -> Option<Vec<u8>>) -> Option<Cow<'a, [u8]>> {
+        if self.order == LITTLE {
+            return Some(Cow::Borrowed(data));
+        }
+        let big = mirrored().map(Cow::Owned);
+        if big.is_none() {
+            self.tally.without_mirror(self.generator);
+        }
+        big
+    }
+
+    /// The sections in the order of the run; none, and counted, where they have no mirror.
+    pub fn strip(&mut self, little: Vec<u8>) -> Option<Strip> {
+        let given = self.given(&little, || mirror::strip(&little))?;
+        let big = if let Cow::Owned(big) = given { Some(big) } else { None };
+        Some(Strip { little, big })
+    }
+
+    /// The sections that were written up to the end, which must be each other's mirror as a whole too.
+    pub fn written(&mut self, end: usize) -> Strip {
+        let little = self.model(end);
+        if self.order == LITTLE {
+            return Strip { little, big: None };
+        }
+        let big = Some(self.big[..end].to_vec());
+        let mirrored = mirror::strip(&little) == big;
+        self.claim("mirrored", 5, mirrored, || hex(&little));
+        Strip { little, big }
     }
 
     /// The pane that the last read with the answer PANE gave.
@@ -171,7 +246,7 @@ impl Comparison {
         };
         let mut answer = [WORD; ANSWER_WORDS];
         let mut code = call(&mut lists, words, &mut answer);
-        self.fault.apply(Left { code: &mut code, answer: &mut answer, words, quads, units, lines, frames, out: &mut [], before: &[] });
+        self.fault.apply(Left { words, quads, units, lines, frames, ..Left::answer(&mut code, &mut answer) });
         if (code, answer) != expected || self.found != self.expected {
             let what = self.expected.differences(&self.found);
             self.tally.differs(case, &expected, &(code, answer), &what, &input());
@@ -183,23 +258,36 @@ impl Comparison {
         self.tally.count(case, &expected);
     }
 
-    // The typed record of the crate, read and written back, against nnbfl's bytes.
-    fn typed(&mut self, case: Case, data: &[u8], place: usize) {
-        let record = match self.buffer.read_body(Kind::CASES[case.kind as usize], data, place) {
+    // Label and caption of the pane that was read last, in the bytes that it was read from.
+    fn labelled(&mut self, given: &[u8]) {
+        if self.whole.kind() == TXT1 {
+            let words = self.whole.words;
+            self.parts(given, &words, b"lent caption");
+            let (from, count) = (words[LABEL_PLACE] as usize, words[LABEL_LENGTH] as usize);
+            let stands = given[from..from + count] == self.whole.label;
+            self.claim("label stands", TXT1, stands, || hex(given));
+        }
+    }
+
+    // The typed record of the crate, read and written back, against nnbfl's bytes in the order of the run.
+    fn typed(&mut self, case: Case, given: &[u8], place: usize) {
+        let order = if self.order == BIG { ByteOrder::Big } else { ByteOrder::Little };
+        let record = match self.buffer.read_body(order, Kind::CASES[case.kind as usize], given, place) {
             Ok(body) => body.view.record(),
             Err(refusal) => panic!("a typed read was refused: {refusal}"),
         };
         self.scratch = oracle::written(&self.whole, false, place, std::mem::take(&mut self.scratch));
-        let end = self.scratch.len();
+        let model = if self.order == BIG { self.mirrored(case.kind, false, place) } else { self.scratch.clone() };
+        let end = model.len();
         let mut out = vec![0; end];
-        let answer = self.buffer.write_body(&record, &mut out, place);
+        let answer = self.buffer.write_body(order, &record, &mut out, place);
         let case = Case { call: "typed body", ..case };
         let found = answer.map_or_else(|no| (REFUSED, no.figures().into()), |end| (WRITTEN, [end as u64, 0, 0]));
         let expected = (WRITTEN, [end as u64, 0, 0]);
-        if found != expected || out[place..] != self.scratch[place..] {
+        if found != expected || out[place..] != model[place..] {
             let mut what = Vec::new();
-            different("byte", &self.scratch[place..], &out[place..], &mut what);
-            self.tally.differs(case, &expected, &found, &what, &hex(data));
+            different("byte", &model[place..], &out[place..], &mut what);
+            self.tally.differs(case, &expected, &found, &what, &hex(given));
         }
         self.tally.count(case, &expected);
     }
@@ -216,6 +304,9 @@ impl Comparison {
         self.out.resize(length + GUARD, BYTE);
         self.model.clear();
         self.model.resize(length + GUARD, BYTE);
+        if self.order == BIG {
+            self.big.clone_from(&self.model);
+        }
     }
 
     /// What nnbfl's writes made of the output.
@@ -226,23 +317,40 @@ impl Comparison {
     /// A body or a section written over what the output holds.
     pub fn write_over(&mut self, w: &Whole, section: bool, place: usize, length: usize) -> Outcome {
         let expected = oracle::write(w, section, place, &mut self.model[..length], &mut self.scratch);
+        if expected.0 == WRITTEN && self.order == BIG {
+            self.mirror_written(w.kind(), section, place);
+        }
         self.before.clear();
         self.before.extend_from_slice(&self.out);
         let mut answer = [WORD; ANSWER_WORDS];
         let out = &mut self.out[..length];
         let write = if section { calls::write_section } else { calls::write_body };
-        let mut code = write(&w.words, w.lists(), out, place, &mut answer);
-        self.fault.apply(Left { out: &mut self.out, before: &self.before, ..Left::answer(&mut code, &mut answer) });
-        let case = Case { generator: self.generator, call: if section { "write section" } else { "write body" }, kind: w.kind() };
-        if (code, answer) != expected || self.out != self.model {
+        let mut code = write(self.order, &w.words, w.lists(), out, place, &mut answer);
+        let (kind, body) = (w.kind(), if section { place.wrapping_add(8) } else { place });
+        self.fault.apply(Left { out: &mut self.out, before: &self.before, kind, section, body, ..Left::answer(&mut code, &mut answer) });
+        let case = Case { generator: self.generator, call: if section { "write section" } else { "write body" }, kind };
+        let model = if self.order == BIG { &self.big } else { &self.model };
+        if (code, answer) != expected || self.out != *model {
             let mut what = Vec::new();
-            different("byte", &self.model, &self.out, &mut what);
+            different("byte", model, &self.out, &mut what);
             let input = format!("place {place}, output {length}, {w:?}");
             self.tally.differs(case, &expected, &(code, answer), &what, &input);
-            self.out.clone_from(&self.model);
+            self.out.clone_from(model);
         }
         self.tally.count(case, &expected);
         expected
+    }
+
+    // What nnbfl wrote last, from `place` on, mirrored into the big-endian output.
+    fn mirror_written(&mut self, kind: u64, section: bool, place: usize) {
+        let big = self.mirrored(kind, section, place);
+        self.big[place..big.len()].copy_from_slice(&big[place..]);
+    }
+
+    // The mirror of what nnbfl wrote last.
+    fn mirrored(&self, kind: u64, section: bool, place: usize) -> Vec<u8> {
+        let big = if section { mirror::section(&self.scratch, place) } else { mirror::body(kind, &self.scratch, place) };
+        big.expect("no two parts that nnbfl writes share a byte")
     }
 
     /// Label and caption of a record in a strip.

@@ -14,12 +14,17 @@ pub struct Left<'a> {
     /// The output of a write, and what stands there before it.
     pub out: &'a mut [u8],
     pub before: &'a [u8],
+    /// What was written: its kind, whether it has a header, and where its body stands.
+    pub kind: u64,
+    pub section: bool,
+    pub body: usize,
 }
 
 impl<'a> Left<'a> {
     /// A call that left nothing but its answer.
     pub fn answer(code: &'a mut u64, answer: &'a mut [u64; ANSWER_WORDS]) -> Self {
-        Self { code, answer, words: &mut [], quads: &mut [], units: &mut [], lines: &mut [], frames: &mut [], out: &mut [], before: &[] }
+        let (words, quads, units, lines, frames) = (&mut [], &mut [], &mut [], &mut [], &mut []);
+        Self { code, answer, words, quads, units, lines, frames, out: &mut [], before: &[], kind: 0, section: false, body: 0 }
     }
 }
 
@@ -61,6 +66,65 @@ pub const FAULTS: [(&str, Change); 32] = [
     ("part-of-the-other", |l| *l.code == PART && add(&mut l.answer[0])),
     ("changed-end", |l| *l.code == WRITTEN && add(&mut l.answer[0])),
 ];
+
+/// The faults of a big-endian run alone: bytes that were turned and must not be, and numbers that were left little-endian.
+pub const TURNED: [(&str, Change); 18] = [
+    ("letters-turned", |l| header(l) && turn(l.out, l.body - 8, 4)),
+    ("size-left", |l| header(l) && turn(l.out, l.body - 4, 4)),
+    ("name-turned", |l| written(l) && turn(l.out, l.body + 4, 24)),
+    ("float-left", |l| written(l) && turn(l.out, l.body + 36, 4)),
+    ("colours-turned", |l| wrote(l, PIC1) && turn(l.out, l.body + 76, 4)),
+    ("material-left", |l| wrote(l, PIC1) && turn(l.out, l.body + 92, 2)),
+    ("text-flags-left", |l| wrote(l, TXT1) && turn(l.out, l.body + 86, 2)),
+    ("unit-left", |l| wrote(l, TXT1) && units(l) && turn(l.out, l.body + 160, 2)),
+    ("side-left", |l| wrote(l, WND1) && turn(l.out, l.body + 78, 2)),
+    ("offset-left", |l| wrote(l, WND1) && turn(l.out, l.body + 96, 4)),
+    ("quad-left", |l| wrote(l, WND1) && l.out[l.body + 122] > 0 && turn(l.out, l.body + 124, 4)),
+    ("direction-left", |l| wrote(l, ALI1) && turn(l.out, l.body + 76, 4)),
+    ("read-float-left", |l| pane(l) && swapped(l.words, SIZE, |word| u64::from((word as u32).swap_bytes()))),
+    ("read-colours-turned", |l| kind(l, PIC1) && turn(l.words, PICTURE_COLORS, 4)),
+    ("read-unit-left", |l| kind(l, TXT1) && l.words[TEXT_PRESENT] == 1 && l.words[TEXT_LENGTH] > 1 && swapped(l.units, 0, u16::swap_bytes)),
+    ("read-line-left", |l| kind(l, TXT1) && l.words[LINES_COUNT] > 0 && swapped(l.lines, 0, u32::swap_bytes)),
+    ("read-quad-left", |l| kind(l, PIC1) && l.words[PICTURE_QUADS] > 0 && swapped(l.quads, 0, u32::swap_bytes)),
+    ("read-frame-left", |l| kind(l, WND1) && l.words[FRAMES_COUNT] > 0 && swapped(l.frames, 0, u16::swap_bytes)),
+];
+
+/// The faults that a run in the order is tried with.
+pub fn faults(order: u64) -> impl Iterator<Item = &'static (&'static str, Change)> {
+    FAULTS.iter().chain(TURNED.iter().filter(move |_| order == BIG))
+}
+
+fn written(l: &Left) -> bool {
+    *l.code == WRITTEN
+}
+
+fn header(l: &Left) -> bool {
+    written(l) && l.section
+}
+
+fn wrote(l: &Left, kind: u64) -> bool {
+    written(l) && l.kind == kind
+}
+
+// Whether a text box was written with units: its text offset is not 0, nor is half its text_length.
+fn units(l: &Left) -> bool {
+    l.out[l.body + 95] != 0 && (l.out[l.body + 78], l.out[l.body + 79]) > (0, 1)
+}
+
+// The numbers the other way round; false where they are the same so.
+fn turn<T: PartialEq>(list: &mut [T], at: usize, count: usize) -> bool {
+    let part = &mut list[at..at + count];
+    let same = part.iter().eq(part.iter().rev());
+    part.reverse();
+    !same
+}
+
+// The number with its bytes turned; false where it is the same so.
+fn swapped<T: PartialEq + Copy>(list: &mut [T], at: usize, turned: fn(T) -> T) -> bool {
+    let before = list[at];
+    list[at] = turned(before);
+    list[at] != before
+}
 
 fn pane(l: &Left) -> bool {
     *l.code == PANE
@@ -139,8 +203,9 @@ impl Fault {
         Self { change: Some(Box::new(change)), every, calls: 0, made: 0 }
     }
 
-    pub fn named(name: &str, every: u64) -> Option<Self> {
-        let (_, change) = FAULTS.iter().find(|(n, _)| *n == name)?;
+    /// The fault of this name, if a run in the order is tried with it.
+    pub fn named(order: u64, name: &str, every: u64) -> Option<Self> {
+        let (_, change) = faults(order).find(|(n, _)| *n == name)?;
         Some(Self::of(change, every))
     }
 

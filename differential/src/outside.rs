@@ -51,7 +51,7 @@ fn library_reads(kind: u64, data: &[u8], place: usize) -> String {
     let (mut lines, mut frames) = (vec![0; FULL[2]], vec![0; FULL[3]]);
     let mut lists = ReadLists { quads: &mut quads, units: &mut units, lines: &mut lines, frames: &mut frames };
     let mut answer = [0; ANSWER_WORDS];
-    let code = calls::read_body(kind, data, place, &mut lists, &mut [0; RECORD_WORDS], &mut answer);
+    let code = calls::read_body(LITTLE, kind, data, place, &mut lists, &mut [0; RECORD_WORDS], &mut answer);
     answered(code, answer)
 }
 
@@ -82,7 +82,7 @@ fn nnbfl_writes(kind: u64, pane: AnyPane, tell: fn(&AnyPane) -> String) -> Strin
 fn library_writes(w: &Whole) -> String {
     let mut answer = [0; ANSWER_WORDS];
     let lists = WriteLists { quads: &w.quads, units: &w.units, lines: &w.lines, frames: &w.frames, label: &w.label };
-    let code = calls::write_body(&w.words, lists, &mut vec![0; 20_000], 8, &mut answer);
+    let code = calls::write_body(LITTLE, &w.words, lists, &mut vec![0; 20_000], 8, &mut answer);
     answered(code, answer)
 }
 
@@ -300,7 +300,7 @@ pub fn rows() -> Vec<Row> {
     let refused = oracle::write(&blank(PAN1), false, 8, &mut room, &mut Vec::new());
     let mut answer = [0; ANSWER_WORDS];
     let lists = WriteLists { quads: &[], units: &[], lines: &[], frames: &[], label: &[] };
-    let code = calls::write_body(&blank(PAN1).words, lists, &mut room, 8, &mut answer);
+    let code = calls::write_body(LITTLE, &blank(PAN1).words, lists, &mut room, 8, &mut answer);
     assert_eq!((code, answer), refused);
     let grown = nnbfl_writes(PAN1, base_with(|_| ()), nothing);
     rows.push(row("a pane into 83 bytes at 8", grown, answered(code, answer), ["written to 84; read, ends at 84", "refused by 16: 84, 83"]));

@@ -14,6 +14,8 @@ pub struct Case {
 
 pub struct Tally {
     counts: HashMap<(Case, u64, u64), u64>,
+    /// By generator: bytes that a big-endian run could not compare.
+    unmirrored: BTreeMap<&'static str, u64>,
     pub cases: u64,
     /// Claims about several cases together, which are no cases of their own.
     pub claims: u64,
@@ -40,7 +42,7 @@ fn outcome_name(code: u64, number: u64) -> String {
 
 impl Tally {
     pub fn new(quiet: bool) -> Self {
-        Self { counts: HashMap::new(), cases: 0, claims: 0, differences: 0, quiet, start: Instant::now() }
+        Self { counts: HashMap::new(), unmirrored: BTreeMap::new(), cases: 0, claims: 0, differences: 0, quiet, start: Instant::now() }
     }
 
     pub fn seconds(&self) -> f64 {
@@ -54,6 +56,11 @@ impl Tally {
         if !self.quiet && self.cases % 250_000 == 0 {
             println!("{:9} cases, {} differences, {:.0} s, at {}", self.cases, self.differences, self.seconds(), case.generator);
         }
+    }
+
+    /// Counts bytes that have no mirror, which are no case.
+    pub fn without_mirror(&mut self, generator: &'static str) {
+        *self.unmirrored.entry(generator).or_insert(0) += 1;
     }
 
     /// Counts a difference and tells the first ones.
@@ -90,6 +97,7 @@ impl Tally {
         for (generator, count) in self.sums(|c, _, _| c.generator) {
             println!("  {generator:34} {count:9}");
         }
+        self.report_unmirrored();
         println!("\ncases by call, outcome and kind");
         println!("  {:14} {:11} {}", "", "", KINDS.map(|k| format!("{k:>9}")).join(""));
         let rows = self.sums(|c, code, number| (c.call, code, number));
@@ -99,7 +107,17 @@ impl Tally {
             println!("  {call:14} {:11} {}", outcome_name(code, number), [0, 1, 2, 3, 4, 5].map(cell).join(""));
         }
         println!("\n{} cases by nnbfl's own answer, the others by document 01's table", self.judged());
-        println!("{} records came back as they were written, or strips ended where they must", self.claims);
+        println!("{} claims about several calls, as that a record came back as it was written or a strip ended where it must", self.claims);
         println!("{} cases in {:.0} s, {} differences", self.cases, self.seconds(), self.differences);
+    }
+
+    fn report_unmirrored(&self) {
+        if self.unmirrored.is_empty() {
+            return;
+        }
+        println!("\nwithout a mirror, by generator, and not among the cases: {}", self.unmirrored.values().sum::<u64>());
+        for (generator, count) in &self.unmirrored {
+            println!("  {generator:34} {count:9}");
+        }
     }
 }

@@ -6,6 +6,22 @@ use crate::refusal::Refusal;
 use crate::view::View;
 use crate::words::Words;
 
+/// In which order the bytes of a number of two or four bytes stand. Letters, names, labels, colours and single bytes have none.
+#[derive(Debug, Clone, Copy, PartialEq, Eq)]
+pub enum ByteOrder {
+    Little,
+    Big,
+}
+
+impl ByteOrder {
+    fn number(self) -> u64 {
+        match self {
+            Self::Little => LITTLE,
+            Self::Big => BIG,
+        }
+    }
+}
+
 /// What a section read gives.
 #[derive(Debug, Clone, Copy)]
 pub enum Section<'a> {
@@ -80,11 +96,11 @@ impl Buffer {
         View { words: &self.words, quads: &self.quads, units: &self.units, lines: &self.lines, frames: &self.frames, strip }
     }
 
-    /// Reads the section at `place` of the strip.
-    pub fn read_section<'a>(&'a mut self, strip: &'a [u8], place: usize) -> Result<Section<'a>, Refusal> {
+    /// Reads the section at `place` of the strip, whose numbers stand in the byte order.
+    pub fn read_section<'a>(&'a mut self, order: ByteOrder, strip: &'a [u8], place: usize) -> Result<Section<'a>, Refusal> {
         let mut answer = Answer::default();
         let mut lists = ReadLists { quads: &mut self.quads, units: &mut self.units, lines: &mut self.lines, frames: &mut self.frames };
-        match calls::read_section(strip, place, &mut lists, &mut self.words, &mut answer) {
+        match calls::read_section(order.number(), strip, place, &mut lists, &mut self.words, &mut answer) {
             END => Ok(Section::End),
             PASSED => Ok(Section::Passed { next: answer[0] as usize }),
             PANE => Ok(Section::Pane { view: self.view(strip), end: answer[0] as usize, next: answer[1] as usize }),
@@ -93,30 +109,30 @@ impl Buffer {
         }
     }
 
-    /// Reads a body of the kind at `place` of the data.
-    pub fn read_body<'a>(&'a mut self, kind: Kind, data: &'a [u8], place: usize) -> Result<Body<'a>, Refusal> {
+    /// Reads a body of the kind at `place` of the data, whose numbers stand in the byte order.
+    pub fn read_body<'a>(&'a mut self, order: ByteOrder, kind: Kind, data: &'a [u8], place: usize) -> Result<Body<'a>, Refusal> {
         let mut answer = Answer::default();
         let mut lists = ReadLists { quads: &mut self.quads, units: &mut self.units, lines: &mut self.lines, frames: &mut self.frames };
-        match calls::read_body(kind as u64, data, place, &mut lists, &mut self.words, &mut answer) {
+        match calls::read_body(order.number(), kind as u64, data, place, &mut lists, &mut self.words, &mut answer) {
             PANE => Ok(Body { view: self.view(data), end: answer[0] as usize }),
             REFUSED => Err(refusal(answer)),
             code => disagree(code, answer),
         }
     }
 
-    /// Writes the record as a section at `place`, and answers where it ends.
-    pub fn write_section(&mut self, record: &Record, out: &mut [u8], place: usize) -> Result<usize, Refusal> {
+    /// Writes the record as a section at `place`, its numbers in the byte order, and answers where it ends.
+    pub fn write_section(&mut self, order: ByteOrder, record: &Record, out: &mut [u8], place: usize) -> Result<usize, Refusal> {
         self.put(record);
         let mut answer = Answer::default();
-        let code = calls::write_section(&self.words, self.lists(record), out, place, &mut answer);
+        let code = calls::write_section(order.number(), &self.words, self.lists(record), out, place, &mut answer);
         written(code, answer)
     }
 
-    /// Writes the record's body at `place`, and answers where it ends.
-    pub fn write_body(&mut self, record: &Record, out: &mut [u8], place: usize) -> Result<usize, Refusal> {
+    /// Writes the record's body at `place`, its numbers in the byte order, and answers where it ends.
+    pub fn write_body(&mut self, order: ByteOrder, record: &Record, out: &mut [u8], place: usize) -> Result<usize, Refusal> {
         self.put(record);
         let mut answer = Answer::default();
-        let code = calls::write_body(&self.words, self.lists(record), out, place, &mut answer);
+        let code = calls::write_body(order.number(), &self.words, self.lists(record), out, place, &mut answer);
         written(code, answer)
     }
 

@@ -1,4 +1,4 @@
-//! The calls of the static library over slices, as `layout` describes them. All that is unsafe stands here.
+//! The calls of the static library over slices, as `layout` describes them; `order` is `LITTLE` or `BIG`. All that is unsafe stands here.
 #![allow(unsafe_code)]
 
 use crate::layout::ANSWER_WORDS;
@@ -28,26 +28,26 @@ pub struct WriteLists<'a> {
 #[rustfmt::skip]
 extern "C" {
     fn bidlomeqa_read_section(
-        data: *const u8, data_length: usize, place: usize,
+        order: u64, data: *const u8, data_length: usize, place: usize,
         quads: *mut u32, quads_length: usize, units: *mut u16, units_length: usize,
         lines: *mut u32, lines_length: usize, frames: *mut u16, frames_length: usize,
         record: *mut u64, record_length: usize, answer: *mut u64, answer_length: usize,
     ) -> u64;
     fn bidlomeqa_read_body(
-        kind: u64, data: *const u8, data_length: usize, place: usize,
+        order: u64, kind: u64, data: *const u8, data_length: usize, place: usize,
         quads: *mut u32, quads_length: usize, units: *mut u16, units_length: usize,
         lines: *mut u32, lines_length: usize, frames: *mut u16, frames_length: usize,
         record: *mut u64, record_length: usize, answer: *mut u64, answer_length: usize,
     ) -> u64;
     fn bidlomeqa_write_section(
-        record: *const u64, record_length: usize,
+        order: u64, record: *const u64, record_length: usize,
         quads: *const u32, quads_length: usize, units: *const u16, units_length: usize,
         lines: *const u32, lines_length: usize, frames: *const u16, frames_length: usize,
         label: *const u8, label_length: usize, out: *mut u8, out_length: usize, place: usize,
         answer: *mut u64, answer_length: usize,
     ) -> u64;
     fn bidlomeqa_write_body(
-        record: *const u64, record_length: usize,
+        order: u64, record: *const u64, record_length: usize,
         quads: *const u32, quads_length: usize, units: *const u16, units_length: usize,
         lines: *const u32, lines_length: usize, frames: *const u16, frames_length: usize,
         label: *const u8, label_length: usize, out: *mut u8, out_length: usize, place: usize,
@@ -65,12 +65,12 @@ extern "C" {
 
 /// Reads the section at `place`.
 #[rustfmt::skip]
-pub fn read_section(data: &[u8], place: usize, lists: &mut ReadLists, record: &mut [u64], answer: &mut [u64]) -> u64 {
+pub fn read_section(order: u64, data: &[u8], place: usize, lists: &mut ReadLists, record: &mut [u64], answer: &mut [u64]) -> u64 {
     let ReadLists { quads, units, lines, frames } = lists;
     // SAFETY: each pointer and length is a slice's own, and the library stays within them.
     unsafe {
         bidlomeqa_read_section(
-            data.as_ptr(), data.len(), place,
+            order, data.as_ptr(), data.len(), place,
             quads.as_mut_ptr(), quads.len(), units.as_mut_ptr(), units.len(),
             lines.as_mut_ptr(), lines.len(), frames.as_mut_ptr(), frames.len(),
             record.as_mut_ptr(), record.len(), answer.as_mut_ptr(), answer.len(),
@@ -80,12 +80,12 @@ pub fn read_section(data: &[u8], place: usize, lists: &mut ReadLists, record: &m
 
 /// Reads a body of the kind at `place`.
 #[rustfmt::skip]
-pub fn read_body(kind: u64, data: &[u8], place: usize, lists: &mut ReadLists, record: &mut [u64], answer: &mut [u64]) -> u64 {
+pub fn read_body(order: u64, kind: u64, data: &[u8], place: usize, lists: &mut ReadLists, record: &mut [u64], answer: &mut [u64]) -> u64 {
     let ReadLists { quads, units, lines, frames } = lists;
     // SAFETY: each pointer and length is a slice's own, and the library stays within them.
     unsafe {
         bidlomeqa_read_body(
-            kind, data.as_ptr(), data.len(), place,
+            order, kind, data.as_ptr(), data.len(), place,
             quads.as_mut_ptr(), quads.len(), units.as_mut_ptr(), units.len(),
             lines.as_mut_ptr(), lines.len(), frames.as_mut_ptr(), frames.len(),
             record.as_mut_ptr(), record.len(), answer.as_mut_ptr(), answer.len(),
@@ -95,12 +95,12 @@ pub fn read_body(kind: u64, data: &[u8], place: usize, lists: &mut ReadLists, re
 
 /// Writes the record as a section at `place`.
 #[rustfmt::skip]
-pub fn write_section(record: &[u64], lists: WriteLists, out: &mut [u8], place: usize, answer: &mut [u64]) -> u64 {
+pub fn write_section(order: u64, record: &[u64], lists: WriteLists, out: &mut [u8], place: usize, answer: &mut [u64]) -> u64 {
     let WriteLists { quads, units, lines, frames, label } = lists;
     // SAFETY: each pointer and length is a slice's own, and the library stays within them.
     unsafe {
         bidlomeqa_write_section(
-            record.as_ptr(), record.len(),
+            order, record.as_ptr(), record.len(),
             quads.as_ptr(), quads.len(), units.as_ptr(), units.len(),
             lines.as_ptr(), lines.len(), frames.as_ptr(), frames.len(),
             label.as_ptr(), label.len(), out.as_mut_ptr(), out.len(), place,
@@ -111,12 +111,12 @@ pub fn write_section(record: &[u64], lists: WriteLists, out: &mut [u8], place: u
 
 /// Writes the record's body at `place`.
 #[rustfmt::skip]
-pub fn write_body(record: &[u64], lists: WriteLists, out: &mut [u8], place: usize, answer: &mut [u64]) -> u64 {
+pub fn write_body(order: u64, record: &[u64], lists: WriteLists, out: &mut [u8], place: usize, answer: &mut [u64]) -> u64 {
     let WriteLists { quads, units, lines, frames, label } = lists;
     // SAFETY: each pointer and length is a slice's own, and the library stays within them.
     unsafe {
         bidlomeqa_write_body(
-            record.as_ptr(), record.len(),
+            order, record.as_ptr(), record.len(),
             quads.as_ptr(), quads.len(), units.as_ptr(), units.len(),
             lines.as_ptr(), lines.len(), frames.as_ptr(), frames.len(),
             label.as_ptr(), label.len(), out.as_mut_ptr(), out.len(), place,

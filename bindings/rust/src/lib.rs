@@ -2,12 +2,13 @@
 //!
 //! [`Buffer`] holds the lists and the record that the calls lend to the library: one buffer reads a whole page and allocates nothing for a pane.
 //! [`View`] is a pane in the buffer; [`View::record`] makes a [`Record`] with lists of its own. [`read_page`] and [`write_page`] do a whole page, its
-//! sections of other kinds included; [`read_strip`] and [`write_strip`] the panes alone.
+//! sections of other kinds included; [`read_strip`] and [`write_strip`] the panes alone. Each call is told the [`ByteOrder`] of the bytes; nothing is guessed.
 //!
 //! ```
-//! let strip = bidlomeqa::write_strip(&[bidlomeqa::Record::default()]).unwrap();
-//! let records = bidlomeqa::read_strip(&strip).unwrap();
-//! assert_eq!(records, [bidlomeqa::Record::default()]);
+//! use bidlomeqa::{read_strip, write_strip, ByteOrder, Record};
+//! let strip = write_strip(ByteOrder::Big, &[Record::default()]).unwrap();
+//! assert_eq!(strip[..8], *b"pan1\0\0\0\x54");
+//! assert_eq!(read_strip(ByteOrder::Big, &strip).unwrap(), [Record::default()]);
 //! ```
 #![deny(unsafe_code)]
 
@@ -21,7 +22,7 @@ mod strip;
 mod view;
 mod words;
 
-pub use buffer::{Body, Buffer, Caption, Section};
+pub use buffer::{Body, Buffer, ByteOrder, Caption, Section};
 pub use flags::*;
 pub use record::*;
 pub use refusal::Refusal;

@@ -1,5 +1,5 @@
 //! A whole page at once.
-use crate::buffer::{Buffer, Section};
+use crate::buffer::{Buffer, ByteOrder, Section};
 use crate::record::Record;
 use crate::refusal::Refusal;
 
@@ -19,7 +19,7 @@ impl std::fmt::Display for Refused {
 
 impl std::error::Error for Refused {}
 
-/// A section of a page: a pane, or one of another kind, header and all, as it stands.
+/// A section of a page: a pane, or one of another kind, header and all, as it stands and so in the byte order that it was read in.
 #[derive(Debug, Clone, PartialEq)]
 pub enum Piece {
     Pane(Box<Record>),
@@ -27,12 +27,12 @@ pub enum Piece {
 }
 
 /// Reads every section of a page, so that [`write_page`] writes back those of other kinds too.
-pub fn read_page(strip: &[u8]) -> Result<Vec<Piece>, Refused> {
+pub fn read_page(order: ByteOrder, strip: &[u8]) -> Result<Vec<Piece>, Refused> {
     let mut buffer = Buffer::new();
     let mut pieces = Vec::new();
     let mut place = 0;
     loop {
-        let (piece, next) = match buffer.read_section(strip, place) {
+        let (piece, next) = match buffer.read_section(order, strip, place) {
             Ok(Section::End) => return Ok(pieces),
             Ok(Section::Passed { next }) => (Piece::Other(strip[place..next].to_vec()), next),
             Ok(Section::Pane { view, next, .. }) => (Piece::Pane(Box::new(view.record())), next),
@@ -43,27 +43,28 @@ pub fn read_page(strip: &[u8]) -> Result<Vec<Piece>, Refused> {
     }
 }
 
-/// Writes the sections of a page, one after another.
-pub fn write_page(pieces: &[Piece]) -> Result<Vec<u8>, Refused> {
-    let mut out = Output::new(pieces.len());
+/// Writes the sections of a page, one after another. One of another kind is copied, if its bytes read on to their end in the byte order; else it is refused as
+/// that read is. Bytes of the other order that read on all the same are not noticed: a size can be the same either way round, as 65,792 is.
+pub fn write_page(order: ByteOrder, pieces: &[Piece]) -> Result<Vec<u8>, Refused> {
+    let mut out = Output::new(order, pieces.len());
     for piece in pieces {
         match piece {
             Piece::Pane(record) => out.write(record)?,
-            Piece::Other(section) => out.copy(section),
+            Piece::Other(section) => out.copy(section)?,
         }
     }
     Ok(out.finish())
 }
 
 /// Reads the panes of a strip. Sections of other kinds are passed and are not among the records: to write a page back, see [`read_page`].
-pub fn read_strip(strip: &[u8]) -> Result<Vec<Record>, Refused> {
-    let pieces = read_page(strip)?;
+pub fn read_strip(order: ByteOrder, strip: &[u8]) -> Result<Vec<Record>, Refused> {
+    let pieces = read_page(order, strip)?;
     Ok(pieces.into_iter().filter_map(|piece| if let Piece::Pane(record) = piece { Some(*record) } else { None }).collect())
 }
 
 /// Writes the records, one section after another.
-pub fn write_strip(records: &[Record]) -> Result<Vec<u8>, Refused> {
-    let mut out = Output::new(records.len());
+pub fn write_strip(order: ByteOrder, records: &[Record]) -> Result<Vec<u8>, Refused> {
+    let mut out = Output::new(order, records.len());
     for record in records {
         out.write(record)?;
     }
@@ -74,22 +75,23 @@ const MOST: usize = 16_777_216;
 
 // An output that grows up to the longest that a call takes.
 struct Output {
+    order: ByteOrder,
     buffer: Buffer,
     out: Vec<u8>,
     place: usize,
 }
 
 impl Output {
-    fn new(sections: usize) -> Self {
-        Self { buffer: Buffer::new(), out: vec![0; (256 * sections).min(MOST)], place: 0 }
+    fn new(order: ByteOrder, sections: usize) -> Self {
+        Self { order, buffer: Buffer::new(), out: vec![0; (256 * sections).min(MOST)], place: 0 }
     }
 
     fn write(&mut self, record: &Record) -> Result<(), Refused> {
         let place = self.place;
-        let end = match self.buffer.write_section(record, &mut self.out, place) {
+        let end = match self.buffer.write_section(self.order, record, &mut self.out, place) {
             Err(Refusal::OutputEnd { end, .. }) if self.out.len() < MOST => {
                 self.out.resize((2 * end as usize).min(MOST), 0);
-                self.buffer.write_section(record, &mut self.out, place)
+                self.buffer.write_section(self.order, record, &mut self.out, place)
             }
             answer => answer,
         };
@@ -97,13 +99,22 @@ impl Output {
         Ok(())
     }
 
-    fn copy(&mut self, section: &[u8]) {
-        let end = self.place + section.len();
+    // Sections that are in the byte order read on to their end, since none passes it.
+    fn copy(&mut self, sections: &[u8]) -> Result<(), Refused> {
+        let end = self.place + sections.len();
         if self.out.len() < end {
             self.out.resize(end, 0);
         }
-        self.out[self.place..end].copy_from_slice(section);
-        self.place = end;
+        self.out[self.place..end].copy_from_slice(sections);
+        while self.place < end {
+            let place = self.place;
+            match self.buffer.read_section(self.order, &self.out[..end], place) {
+                Ok(Section::Passed { next } | Section::Pane { next, .. }) => self.place = next,
+                Ok(Section::End) => break,
+                Err(refusal) => return Err(Refused { place, refusal }),
+            }
+        }
+        Ok(())
     }
 
     fn finish(mut self) -> Vec<u8> {

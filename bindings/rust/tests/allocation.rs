@@ -1,4 +1,5 @@
 //! A page is read with one buffer and no allocation for a pane.
+use bidlomeqa::ByteOrder::Little;
 use bidlomeqa::*;
 use std::alloc::{GlobalAlloc, Layout, System};
 use std::cell::Cell;
@@ -30,23 +31,23 @@ fn reading_and_writing_a_page_allocates_nothing() {
     let text_box = TextBoxPane { label: Some("label".into()), ..Default::default() };
     let kinds = [Own::Pan1, Own::Pic1(picture), Own::Txt1(text_box), Own::Wnd1(WindowPane::default()), Own::Ali1(AlignmentPane::default())];
     let records: Vec<Record> = (0..500).map(|i| Record { base: Pane::default(), own: kinds[i % 5].clone() }).collect();
-    let strip = write_strip(&records).unwrap();
+    let strip = write_strip(Little, &records).unwrap();
     let mut buffer = Buffer::new();
     let mut out = vec![0; strip.len()];
     let mut end = 0;
     for record in &records[..5] {
-        end = buffer.write_section(record, &mut out, end).unwrap();
+        end = buffer.write_section(Little, record, &mut out, end).unwrap();
     }
     let before = ALLOCATIONS.get();
     assert!(before > 0);
     let (mut place, mut panes) = (0, 0);
-    while let Ok(Section::Pane { view, next, .. }) = buffer.read_section(&strip, place) {
+    while let Ok(Section::Pane { view, next, .. }) = buffer.read_section(Little, &strip, place) {
         panes += usize::from(view.base() == Pane::default());
         place = next;
     }
     let mut end = 0;
     for record in &records {
-        end = buffer.write_section(record, &mut out, end).unwrap();
+        end = buffer.write_section(Little, record, &mut out, end).unwrap();
     }
     assert_eq!(ALLOCATIONS.get(), before);
     assert_eq!((panes, place, end), (500, strip.len(), strip.len()));

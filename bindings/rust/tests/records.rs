@@ -1,4 +1,5 @@
 //! Typed records through the library and back.
+use bidlomeqa::ByteOrder::{Big, Little};
 use bidlomeqa::*;
 
 fn name<const N: usize>(text: &str) -> FixedString<N> {
@@ -42,7 +43,7 @@ fn picture() -> Record {
     let own = PicturePane {
         vertex_colors: [color(0), color(10), color(20), color(30)],
         material_index: 0xABCD,
-        shape_info_array_index: Some(0xFFFF_FFFF),
+        shape_info_array_index: Some(0xFFFE_FDFC),
         quads: vec![quad(1), quad(100)],
     };
     Record { base: base("P_Picture"), own: Own::Pic1(own) }
@@ -99,8 +100,29 @@ fn page() -> Vec<Record> {
 
 #[test]
 fn a_page_comes_back_as_it_was_written() {
-    let strip = write_strip(&page()).unwrap();
-    assert_eq!(read_strip(&strip).unwrap(), page());
+    for order in [Little, Big] {
+        let strip = write_strip(order, &page()).unwrap();
+        assert_eq!(read_strip(order, &strip).unwrap(), page());
+    }
+}
+
+#[test]
+fn the_other_byte_order_turns_numbers_alone() {
+    const BASE: (usize, usize, usize) = (44, 84, 4);
+    const SIZE: (usize, usize, usize) = (4, 8, 4);
+    // From and to which byte of the section numbers of so many bytes stand.
+    let picture = (picture(), vec![(100, 102, 2), (104, 172, 4)]);
+    let text_box = (text_box(), vec![(84, 92, 2), (94, 96, 2), (96, 104, 4), (112, 148, 4), (156, 168, 4), (168, 182, 2), (201, 217, 4)]);
+    let window = (window(), vec![(84, 100, 2), (104, 112, 4), (128, 130, 2), (132, 164, 4), (164, 172, 4), (172, 174, 2), (176, 178, 2)]);
+    let alignment = (alignment(), vec![(84, 92, 4)]);
+    let base = (Record { base: base("N_Root"), own: Own::Pan1 }, vec![]);
+    for (record, numbers) in [base, picture, text_box, window, alignment] {
+        let [mut strip, big] = [Little, Big].map(|order| write_strip(order, std::slice::from_ref(&record)).unwrap());
+        for (from, to, width) in [vec![SIZE, BASE], numbers].concat() {
+            strip[from..to].chunks_exact_mut(width).for_each(<[u8]>::reverse);
+        }
+        assert_eq!(strip, big);
+    }
 }
 
 #[test]
@@ -113,7 +135,7 @@ fn blank_records_of_every_kind_come_back() {
         Own::Ali1(AlignmentPane::default()),
     ];
     let records = kinds.map(|own| Record { base: Pane::default(), own });
-    assert_eq!(read_strip(&write_strip(&records).unwrap()).unwrap(), records);
+    assert_eq!(read_strip(Little, &write_strip(Little, &records).unwrap()).unwrap(), records);
 }
 
 #[test]
@@ -124,25 +146,27 @@ fn an_empty_part_is_no_absent_one() {
     own.fixed.text_length = 0;
     own.label = Some(String::new());
     own.line_transforms = Some(Vec::new());
-    let strip = write_strip(std::slice::from_ref(&record)).unwrap();
-    assert_eq!(read_strip(&strip).unwrap(), [record]);
+    let strip = write_strip(Little, std::slice::from_ref(&record)).unwrap();
+    assert_eq!(read_strip(Little, &strip).unwrap(), [record]);
 }
 
 #[test]
 fn a_float_keeps_its_bits() {
-    let strip = write_strip(&page()).unwrap();
-    let translation = read_strip(&strip).unwrap()[0].base.translation;
-    assert_eq!(translation.x.value(), 1.5);
-    assert!(translation.y.value().is_sign_negative());
-    assert!(translation.z.value().is_nan());
-    assert_eq!(translation.z.bits, 0x7F80_0001);
+    for order in [Little, Big] {
+        let strip = write_strip(order, &page()).unwrap();
+        let translation = read_strip(order, &strip).unwrap()[0].base.translation;
+        assert_eq!(translation.x.value(), 1.5);
+        assert!(translation.y.value().is_sign_negative());
+        assert!(translation.z.value().is_nan());
+        assert_eq!(translation.z.bits, 0x7F80_0001);
+    }
 }
 
 #[test]
 fn the_layouts_of_document_01() {
     let mut buffer = Buffer::new();
     let mut out = vec![0; 400];
-    assert_eq!(buffer.write_body(&window(), &mut out, 8), Ok(8 + 172));
+    assert_eq!(buffer.write_body(Little, &window(), &mut out, 8), Ok(8 + 172));
     assert_eq!(out[8 + 100..8 + 104], 164u32.to_le_bytes());
     let mut record = text_box();
     let Own::Txt1(own) = &mut record.own else { unreachable!() };
@@ -150,33 +174,33 @@ fn the_layouts_of_document_01() {
     own.fixed.text_length = 2;
     own.label = Some("ab".into());
     own.line_transforms = Some(vec![LineTransform::default()]);
-    assert_eq!(buffer.write_body(&record, &mut out, 8), Ok(8 + 177));
+    assert_eq!(buffer.write_body(Little, &record, &mut out, 8), Ok(8 + 177));
     for (at, offset) in [(92, 168u32), (120, 172), (152, 176), (156, 0)] {
         assert_eq!(out[8 + at..8 + at + 4], offset.to_le_bytes());
     }
-    assert_eq!(buffer.write_section(&record, &mut out, 0), Ok(188));
+    assert_eq!(buffer.write_section(Little, &record, &mut out, 0), Ok(188));
 }
 
 #[test]
 fn sections_of_other_kinds_are_passed() {
     let mut strip = b"grp1\x0c\0\0\0abcd".to_vec();
-    strip.extend(write_strip(&[alignment()]).unwrap());
+    strip.extend(write_strip(Little, &[alignment()]).unwrap());
     let mut buffer = Buffer::new();
-    assert!(matches!(buffer.read_section(&strip, 0), Ok(Section::Passed { next: 12 })));
-    assert!(matches!(buffer.read_section(&strip, 12), Ok(Section::Pane { end: 108, next: 108, .. })));
-    assert!(matches!(buffer.read_section(&strip, 108), Ok(Section::End)));
-    assert_eq!(read_strip(&strip).unwrap(), [alignment()]);
+    assert!(matches!(buffer.read_section(Little, &strip, 0), Ok(Section::Passed { next: 12 })));
+    assert!(matches!(buffer.read_section(Little, &strip, 12), Ok(Section::Pane { end: 108, next: 108, .. })));
+    assert!(matches!(buffer.read_section(Little, &strip, 108), Ok(Section::End)));
+    assert_eq!(read_strip(Little, &strip).unwrap(), [alignment()]);
 }
 
 #[test]
 fn label_and_caption_are_parts_of_what_is_lent() {
-    let strip = write_strip(&[text_box(), alignment()]).unwrap();
+    let strip = write_strip(Little, &[text_box(), alignment()]).unwrap();
     let mut buffer = Buffer::new();
-    let Ok(Section::Pane { view, next, .. }) = buffer.read_section(&strip, 0) else { panic!() };
+    let Ok(Section::Pane { view, next, .. }) = buffer.read_section(Little, &strip, 0) else { panic!() };
     assert_eq!(view.label(), Some("Überschrift".as_bytes()));
     assert_eq!(view.caption(&strip, b"lent"), Caption::Strip("Überschrift".as_bytes()));
     assert_eq!(view.caption(b"another strip", b"lent"), Caption::Lent(b"lent"));
-    let Ok(Section::Pane { view, .. }) = buffer.read_section(&strip, next) else { panic!() };
+    let Ok(Section::Pane { view, .. }) = buffer.read_section(Little, &strip, next) else { panic!() };
     assert_eq!(view.label(), None);
     assert_eq!(view.caption(&strip, b"lent"), Caption::Lent(b"lent"));
 }
@@ -185,22 +209,22 @@ fn label_and_caption_are_parts_of_what_is_lent() {
 fn a_body_is_read_by_its_kind() {
     let mut out = vec![0; 300];
     let mut buffer = Buffer::new();
-    let end = buffer.write_body(&picture(), &mut out, 9).unwrap();
-    let body = buffer.read_body(Kind::Pic1, &out, 9).unwrap();
+    let end = buffer.write_body(Little, &picture(), &mut out, 9).unwrap();
+    let body = buffer.read_body(Little, Kind::Pic1, &out, 9).unwrap();
     assert_eq!((body.end, body.view.record()), (end, picture()));
 }
 
 #[test]
 fn a_view_has_the_fields_of_its_record() {
-    let strip = write_strip(&[picture(), window(), alignment()]).unwrap();
+    let strip = write_strip(Little, &[picture(), window(), alignment()]).unwrap();
     let mut buffer = Buffer::new();
-    let Ok(Section::Pane { view, next, .. }) = buffer.read_section(&strip, 0) else { panic!() };
+    let Ok(Section::Pane { view, next, .. }) = buffer.read_section(Little, &strip, 0) else { panic!() };
     let Own::Pic1(own) = picture().own else { unreachable!() };
     assert_eq!(view.vertex_colors(), Some(own.vertex_colors));
     assert_eq!(view.material_index(), Some(own.material_index));
     assert_eq!(view.shape_info_array_index(), own.shape_info_array_index);
     assert_eq!((view.inflation(), view.frame_size(), view.window_flags()), (None, None, None));
-    let Ok(Section::Pane { view, next, .. }) = buffer.read_section(&strip, next) else { panic!() };
+    let Ok(Section::Pane { view, next, .. }) = buffer.read_section(Little, &strip, next) else { panic!() };
     let Own::Wnd1(own) = window().own else { unreachable!() };
     assert_eq!(view.vertex_colors(), Some(own.content.vertex_colors));
     assert_eq!(view.material_index(), Some(own.content.material_index));
@@ -208,22 +232,41 @@ fn a_view_has_the_fields_of_its_record() {
     assert_eq!(view.frame_size(), Some(own.frame_size));
     assert_eq!(view.window_flags(), Some(own.flag));
     assert_eq!(view.shape_info_array_index(), None);
-    let Ok(Section::Pane { view, .. }) = buffer.read_section(&strip, next) else { panic!() };
+    let Ok(Section::Pane { view, .. }) = buffer.read_section(Little, &strip, next) else { panic!() };
     assert_eq!((view.vertex_colors(), view.material_index()), (None, None));
+}
+
+fn other(order: ByteOrder, letters: &[u8; 4], body: &[u8]) -> Vec<u8> {
+    let size = 8 + body.len() as u32;
+    let size = if order == Little { size.to_le_bytes() } else { size.to_be_bytes() };
+    [letters, &size, body].concat()
 }
 
 #[test]
 fn a_page_comes_back_with_its_other_sections() {
-    let other = b"usd1\x0c\0\0\0abcd".to_vec();
-    let pieces = vec![
-        Piece::Other(other.clone()),
-        Piece::Pane(Box::default()),
-        Piece::Other(b"pas1\x08\0\0\0".to_vec()),
-    ];
-    let page = write_page(&pieces).unwrap();
-    assert_eq!(page.len(), 12 + 84 + 8);
-    assert_eq!(page[..12], other);
-    assert_eq!(read_page(&page).unwrap(), pieces);
-    assert_eq!(write_page(&read_page(&page).unwrap()).unwrap(), page);
-    assert_eq!(read_strip(&page).unwrap(), [Record::default()]);
+    for order in [Little, Big] {
+        let user_data = other(order, b"usd1", b"abcd");
+        let pieces = vec![Piece::Other(user_data.clone()), Piece::Pane(Box::default()), Piece::Other(other(order, b"pas1", b""))];
+        let page = write_page(order, &pieces).unwrap();
+        assert_eq!(page.len(), 12 + 84 + 8);
+        assert_eq!(page[..12], user_data);
+        assert_eq!(read_page(order, &page).unwrap(), pieces);
+        assert_eq!(write_page(order, &read_page(order, &page).unwrap()).unwrap(), page);
+        assert_eq!(read_strip(order, &page).unwrap(), [Record::default()]);
+    }
+}
+
+#[test]
+fn a_section_of_another_kind_is_not_taken_into_the_other_byte_order() {
+    let pane = Piece::Pane(Box::default());
+    let page = read_page(Little, &write_page(Little, &[pane.clone(), Piece::Other(other(Little, b"grp1", b"abcd"))]).unwrap()).unwrap();
+    let refused = |place, size| Refused { place, refusal: Refusal::SectionSize { place: place as u64 + 4, size } };
+    assert_eq!(write_page(Big, &page), Err(refused(84, 0x0C00_0000)));
+    assert_eq!(write_page(Big, &page[..1]).map(|strip| read_page(Big, &strip)), Ok(Ok(vec![pane])));
+    let cut = other(Big, b"grp1", b"abcd")[..8].to_vec();
+    let two = [other(Big, b"grp1", b""), cut].concat();
+    assert_eq!(write_page(Big, &[Piece::Other(two)]), Err(refused(8, 12)));
+    let two = [other(Big, b"grp1", b""), other(Big, b"usd1", b"abcd")];
+    let page = write_page(Big, &[Piece::Other(two.concat()), Piece::Other(Vec::new())]).unwrap();
+    assert_eq!(read_page(Big, &page).unwrap(), two.map(Piece::Other));
 }

@@ -1,12 +1,14 @@
 //! Every refusal: its number, its figures and its sentence.
+use bidlomeqa::layout::LITTLE;
+use bidlomeqa::ByteOrder::Little;
 use bidlomeqa::*;
 
 fn write(record: &Record) -> Refusal {
-    Buffer::new().write_body(record, &mut vec![0; 20_000], 8).unwrap_err()
+    Buffer::new().write_body(Little, record, &mut vec![0; 20_000], 8).unwrap_err()
 }
 
 fn read(kind: Kind, data: &[u8], place: usize) -> Refusal {
-    Buffer::new().read_body(kind, data, place).map(|body| body.end).unwrap_err()
+    Buffer::new().read_body(Little, kind, data, place).map(|body| body.end).unwrap_err()
 }
 
 fn says(refusal: Refusal, figures: (u64, u64, u64), sentence: &str) {
@@ -47,7 +49,7 @@ fn reads_that_are_refused() {
     data[8 + 156] = 0;
     data[168] = 0xFF;
     says(read(Kind::Txt1, &data, 8), (7, 168, 3), "the label at 168 is ill-formed UTF-8");
-    let refusal = Buffer::new().read_section(b"ali1\x09\0\0\0\0\0\0\0", 0).map(|_| ()).unwrap_err();
+    let refusal = Buffer::new().read_section(Little, b"ali1\x09\0\0\0\0\0\0\0", 0).map(|_| ()).unwrap_err();
     says(refusal, (8, 4, 9), "the section size 9 at 4 is below 8, no multiple of 4, or passes the buffer");
 }
 
@@ -63,7 +65,7 @@ fn short_lists_are_refused() {
     let mut quads = vec![0; 2039];
     let mut lists = calls::ReadLists { quads: &mut quads, units: &mut [], lines: &mut [], frames: &mut [] };
     let (mut record, mut answer) = ([7; layout::RECORD_WORDS], [0; layout::ANSWER_WORDS]);
-    let code = calls::read_section(b"", 0, &mut lists, &mut record, &mut answer);
+    let code = calls::read_section(LITTLE, b"", 0, &mut lists, &mut record, &mut answer);
     assert_eq!((code, answer), (layout::REFUSED, [3, 1, 2040]));
     assert_eq!(record, [7; layout::RECORD_WORDS]);
     says(Refusal::of(3, 1, 2040).unwrap(), (3, 1, 2040), "the lent list of quads is too short: it needs 2040 numbers");
@@ -105,11 +107,11 @@ fn a_flip_beyond_the_known_ones_is_refused() {
     let own = WindowPane { frames: vec![WindowFrame::default(); 2], ..Default::default() };
     let mut buffer = Buffer::new();
     let mut out = vec![0; 300];
-    let end = buffer.write_body(&Record { base: Pane::default(), own: Own::Wnd1(own) }, &mut out, 8).unwrap();
-    let words = *buffer.read_body(Kind::Wnd1, &out[..end], 8).unwrap().view.words();
+    let end = buffer.write_body(Little, &Record { base: Pane::default(), own: Own::Wnd1(own) }, &mut out, 8).unwrap();
+    let words = *buffer.read_body(Little, Kind::Wnd1, &out[..end], 8).unwrap().view.words();
     let lists = calls::WriteLists { quads: &[], units: &[], lines: &[], frames: &[1, 2, 3, 6], label: &[] };
     let mut answer = [0; layout::ANSWER_WORDS];
-    let code = calls::write_body(&words, lists, &mut out, 8, &mut answer);
+    let code = calls::write_body(LITTLE, &words, lists, &mut out, 8, &mut answer);
     assert_eq!((code, answer), (layout::REFUSED, [12, 1, 6]));
     says(Refusal::of(12, 1, 6).unwrap(), (12, 1, 6), "frame 1 has the flip 6; at most 5 is known");
 }
@@ -117,16 +119,16 @@ fn a_flip_beyond_the_known_ones_is_refused() {
 #[test]
 fn an_output_without_room_is_refused_and_unchanged() {
     let mut out = [7; 83];
-    let refusal = Buffer::new().write_body(&Record::default(), &mut out, 8).unwrap_err();
+    let refusal = Buffer::new().write_body(Little, &Record::default(), &mut out, 8).unwrap_err();
     says(refusal, (16, 84, 83), "what is written ends at 84, and the output has 83 bytes");
     assert_eq!(out, [7; 83]);
 }
 
 #[test]
 fn a_refused_section_tells_its_place() {
-    let mut strip = write_strip(&[Record::default()]).unwrap();
+    let mut strip = write_strip(Little, &[Record::default()]).unwrap();
     strip.extend(b"ali1\x08\0\0\0");
-    let refused = read_strip(&strip).unwrap_err();
+    let refused = read_strip(Little, &strip).unwrap_err();
     assert_eq!(refused.to_string(), "section at 84: the bytes run out: 1 more are needed at 92");
 }
 

@@ -12,7 +12,7 @@ fn repository() -> PathBuf {
 
 fn written(record: &[u64]) -> (u64, Answer) {
     let (mut out, mut answer) = ([0; 400], Answer::default());
-    let code = calls::write_body(record, NO_LISTS, &mut out, 8, &mut answer);
+    let code = calls::write_body(LITTLE, record, NO_LISTS, &mut out, 8, &mut answer);
     assert!(code == WRITTEN || out == [0; 400]);
     (code, answer)
 }
@@ -20,12 +20,12 @@ fn written(record: &[u64]) -> (u64, Answer) {
 #[test]
 fn a_short_answer_or_record_is_told() {
     let mut out = [0; 100];
-    assert_eq!(calls::write_body(&[0; RECORD_WORDS], NO_LISTS, &mut out, 8, &mut [9, 9]), SHORT_ANSWER);
+    assert_eq!(calls::write_body(LITTLE, &[0; RECORD_WORDS], NO_LISTS, &mut out, 8, &mut [9, 9]), SHORT_ANSWER);
     assert_eq!(out, [0; 100]);
     assert_eq!(written(&[0; RECORD_WORDS - 1]), (SHORT_RECORD, [RECORD_WORDS as u64, 0, 0]));
     let mut lists = ReadLists { quads: &mut [], units: &mut [], lines: &mut [], frames: &mut [] };
     let mut answer = Answer::default();
-    let code = calls::read_section(&[], 0, &mut lists, &mut [0; RECORD_WORDS - 1], &mut answer);
+    let code = calls::read_section(LITTLE, &[], 0, &mut lists, &mut [0; RECORD_WORDS - 1], &mut answer);
     assert_eq!((code, answer), (SHORT_RECORD, [RECORD_WORDS as u64, 0, 0]));
     assert_eq!(calls::label(&[], &[0; RECORD_WORDS], &mut []), SHORT_ANSWER);
 }
@@ -116,10 +116,10 @@ fn a_read_keeps_the_words_after_its_kind() {
     let mut buffers = (vec![0; 2040], vec![0; 32767], vec![0; 510], vec![0; 510]);
     let mut lists = ReadLists { quads: &mut buffers.0, units: &mut buffers.1, lines: &mut buffers.2, frames: &mut buffers.3 };
     let (mut record, mut answer) = ([9; RECORD_WORDS], Answer::default());
-    assert_eq!(calls::read_body(0, &[0; 84], 8, &mut lists, &mut record, &mut answer), PANE);
+    assert_eq!(calls::read_body(LITTLE, 0, &[0; 84], 8, &mut lists, &mut record, &mut answer), PANE);
     assert_eq!((&record[..OWN], &record[OWN..]), (&[0; OWN][..], &[9; RECORD_WORDS - OWN][..]));
     assert_eq!(answer, [84, 0, 0]);
-    assert_eq!(calls::read_body(5, &[0; 84], 8, &mut lists, &mut record, &mut answer), BAD_WORD);
+    assert_eq!(calls::read_body(LITTLE, 5, &[0; 84], 8, &mut lists, &mut record, &mut answer), BAD_WORD);
 }
 
 #[test]
@@ -152,4 +152,50 @@ fn the_c_example_runs() {
     assert!(output.status.success());
     let expected = "read: 2, body ends at 96, next section at 96\nwritten: 3, ends at 96\nat the end: 0\ncut short: 4, number 8, figures 4 96\n";
     assert_eq!(String::from_utf8(output.stdout).unwrap(), expected);
+}
+
+#[test]
+fn the_caller_names_the_byte_order() {
+    let mut buffers = (vec![0; 2040], vec![0; 32767], vec![0; 510], vec![0; 510]);
+    let mut lists = ReadLists { quads: &mut buffers.0, units: &mut buffers.1, lines: &mut buffers.2, frames: &mut buffers.3 };
+    let mut read = |order: u64, data: &[u8]| {
+        let mut answer = Answer::default();
+        (calls::read_section(order, data, 0, &mut lists, &mut [0; RECORD_WORDS], &mut answer), answer)
+    };
+    let strip = [&b"ali1\0\0\0\x60"[..], &[0; 88]].concat();
+    assert_eq!(read(BIG, &strip), (PANE, [96, 96, 0]));
+    assert_eq!(read(LITTLE, &strip), (REFUSED, [8, 4, 0x6000_0000]));
+    assert_eq!(read(BIG, b"ali1\x08\0\0\0"), (REFUSED, [8, 4, 0x0800_0000]));
+    assert_eq!(read(LITTLE, b"ali1\x08\0\0\0"), (REFUSED, [4, 8, 1]));
+}
+
+#[test]
+fn another_number_is_no_byte_order() {
+    for order in [2, 256, 1 << 32, u64::MAX] {
+        let (mut quads, mut units, mut lines, mut frames) = (vec![7; 2040], vec![7; 32767], vec![7; 510], vec![7; 510]);
+        let mut lists = ReadLists { quads: &mut quads, units: &mut units, lines: &mut lines, frames: &mut frames };
+        let (mut record, mut out, mut answer) = ([9; RECORD_WORDS], [9; 100], Answer::default());
+        let told = (BAD_ORDER, [order, 0, 0]);
+        assert_eq!((calls::read_section(order, &[0; 84], 0, &mut lists, &mut record, &mut answer), answer), told);
+        assert_eq!((calls::read_body(order, 0, &[0; 84], 8, &mut lists, &mut record, &mut answer), answer), told);
+        assert_eq!((calls::write_section(order, &[0; RECORD_WORDS], NO_LISTS, &mut out, 0, &mut answer), answer), told);
+        assert_eq!((calls::write_body(order, &[0; RECORD_WORDS], NO_LISTS, &mut out, 8, &mut answer), answer), told);
+        assert_eq!((record, out), ([9; RECORD_WORDS], [9; 100]));
+        assert_eq!((quads, units, lines, frames), (vec![7; 2040], vec![7; 32767], vec![7; 510], vec![7; 510]));
+    }
+}
+
+#[test]
+fn the_byte_order_is_looked_at_after_the_answer_and_before_the_record() {
+    let mut lists = ReadLists { quads: &mut [], units: &mut [], lines: &mut [], frames: &mut [] };
+    let mut calls = |answer: &mut [u64]| {
+        [
+            calls::read_section(2, &[], 0, &mut lists, &mut [], answer),
+            calls::read_body(2, 5, &[], 8, &mut lists, &mut [], answer),
+            calls::write_section(2, &[], NO_LISTS, &mut [], 0, answer),
+            calls::write_body(2, &[], NO_LISTS, &mut [], 8, answer),
+        ]
+    };
+    assert_eq!(calls(&mut [9; ANSWER_WORDS]), [BAD_ORDER; 4]);
+    assert_eq!(calls(&mut [9; ANSWER_WORDS - 1]), [SHORT_ANSWER; 4]);
 }

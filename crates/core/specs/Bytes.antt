@@ -2,12 +2,12 @@
 use mathlib.Core.Path.{_≡_}
 use Prim.Native.Nat.{ℕ, zero, suc, _+_, _-_, _*_, _/_, _%_, _≤_}
 use mathlib.Core.Bool.{cond}
-use mathlib.Core.List.{List, [], _∷_, _++_}
+use mathlib.Core.List.{List, [], _∷_, _++_, reverse}
 use lib.ListN.{length, take, drop, set, replicate}
 use lib.IntN.{ℤ, pos, negsuc}
 use lib.Dec.{ltb}
 use Rattle.core.specs.declared.cursor.ByteOrder.{ByteOrder}
-use Rattle.core.specs.declared.cursor.ByteOrder.the-variants.{Little}
+use Rattle.core.specs.declared.cursor.ByteOrder.the-variants.{Little, Big}
 
 -- ---- numbers
 
@@ -20,12 +20,17 @@ unfoldable pub le : ℕ → ℕ → List ℕ
 le zero v = []
 le (suc w) v = v % 256 ∷ le w (v / 256)
 
+-- bytes, the lowest first, put in an order; and bytes in an order, put the lowest first
+abbrev pub ordered : ByteOrder → List ℕ → List ℕ
+ordered Little bs = bs
+ordered Big bs = reverse bs
+
 -- the same in an order
 unfoldable pub spelled : ByteOrder → List ℕ → ℕ
-spelled Little bs = little bs
+spelled order bs = little (ordered order bs)
 
 unfoldable pub bytesOf : ByteOrder → ℕ → ℕ → List ℕ
-bytesOf Little w v = le w v
+bytesOf order w v = ordered order (le w v)
 
 -- the numbers of a list, each as w bytes, one after the other
 unfoldable pub bytesOfAll : ByteOrder → ℕ → List ℕ → List ℕ

@@ -8,9 +8,10 @@ ghost use lib.ListN.{length};
 ghost use Rattle.core.specs.Bytes.{little, numberAt};
 ghost use Rattle.core.specs.Taken.{start, advanced, moved, stopIf, sought, u8Taken, u16Taken, u32Taken, i16Taken};
 
-// In which order the bytes of a number stand.
+// In which order the bytes of a number stand: the lowest first, or the highest.
 pub enum ByteOrder {
     Little,
+    Big,
 }
 
 // A place among the bytes.
@@ -130,6 +131,7 @@ pub fn u16_at(order: ByteOrder, data: &[u8], at: usize) -> u16
 {
     match order {
         ByteOrder::Little => join2(data[at], data[at + 1]),
+        ByteOrder::Big => join2(data[at + 1], data[at]),
     }
 }
 
@@ -140,6 +142,7 @@ pub fn u32_at(order: ByteOrder, data: &[u8], at: usize) -> u32
 {
     match order {
         ByteOrder::Little => join4(data[at], data[at + 1], data[at + 2], data[at + 3]),
+        ByteOrder::Big => join4(data[at + 3], data[at + 2], data[at + 1], data[at]),
     }
 }
 

@@ -9,7 +9,6 @@ use lib.Seq.{take-suc, sets, sets-eq, take-at, drop-at, length-take-le, take-app
 use native.Mathlib.Numerals.{add-one}
 use Rattle.core.specs.Bytes.{bytesOf, bytesOfAll, fixed, splice, Put}
 use Rattle.core.specs.declared.cursor.ByteOrder.{ByteOrder}
-use Rattle.core.specs.declared.cursor.ByteOrder.the-variants.{Little}
 
 pub length-splice : (o : List ℕ) (p : ℕ) (e : List ℕ) → length (splice o p e) ≡ length o
 unfolding splice
@@ -66,10 +65,6 @@ all-more order w s i h = rw (take-more s i h, all-append) (ap (λ (l : List ℕ)
 
 pub replicate-more : (i : ℕ) → replicate {A = ℕ} (i + 1) 0 ≡ replicate i 0 ++ (0 ∷ [])
 replicate-more i = sym (replicate-append-replicate i 1 0)
-
--- the one order that there is
-pub little-only : (order : ByteOrder) (v : ℕ) {o o₁ : List ℕ} {p q w : ℕ} → Put o p w (bytesOf Little w v) q o₁ → Put o p w (bytesOf order w v) q o₁
-little-only Little v h = h
 
 -- a name's bytes and the zeros after them
 pub put-fixed : {o o₁ o₂ : List ℕ} {p q r v w k : ℕ} {s : List ℕ} → v + k ≡ w → Put o p v s q o₁ → Put o₁ q k (replicate k 0) r o₂ → Put o p w (fixed w s) r o₂

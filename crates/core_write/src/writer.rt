@@ -7,7 +7,7 @@ ghost use mathlib.Core.Path.{_≡_};
 ghost use mathlib.Core.List.{[], _∷_};
 ghost use Prim.Native.Nat.{_+_, _*_, _≤_, _<_};
 ghost use lib.ListN.{length, take, replicate};
-ghost use Rattle.core.specs.Bytes.{bytesOf, bytesOfAll, bitsOf, fixed, padding, Room, Put};
+ghost use Rattle.core.specs.Bytes.{little, bytesOf, bytesOfAll, bitsOf, fixed, padding, Room, Put};
 
 // ---- numbers
 
@@ -54,12 +54,29 @@ fn put_little32(out: &mut [u8], p: usize, v: u32) -> usize
     c + 1
 }
 
+// The number whose bytes are those of v the other way round.
+fn swap_bytes16(v: u16) -> u16
+    ensures { λ r. ⌜ r ≡ little (bytesOf ByteOrder.Big 2 v) ⌝ }
+{
+    v / 256 + 256 * (v % 256)
+}
+
+fn swap_bytes32(v: u32) -> u32
+    ensures { λ r. ⌜ r ≡ little (bytesOf ByteOrder.Big 4 v) ⌝ }
+{
+    let x = v / 256;
+    let y = x / 256;
+    let z = y / 256;
+    z + 256 * (y % 256) + 65536 * (x % 256) + 16777216 * (v % 256)
+}
+
 pub fn put_u16(order: ByteOrder, out: &mut [u8], p: usize, v: u16) -> usize
     requires { ⌜ Room (now out) p 2 ⌝ }
     ensures { λ r. ⌜ Put (now (out .entry)) p 2 (bytesOf order 2 v) r (now (out .exit)) ⌝ }
 {
     match order {
         ByteOrder::Little => put_little16(out, p, v),
+        ByteOrder::Big => put_little16(out, p, swap_bytes16(v)),
     }
 }
 
@@ -69,6 +86,7 @@ pub fn put_u32(order: ByteOrder, out: &mut [u8], p: usize, v: u32) -> usize
 {
     match order {
         ByteOrder::Little => put_little32(out, p, v),
+        ByteOrder::Big => put_little32(out, p, swap_bytes32(v)),
     }
 }
 

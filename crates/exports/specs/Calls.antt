@@ -4,11 +4,10 @@ use mathlib.Core.Bool.{cond}
 use mathlib.Core.List.{List}
 use lib.ListN.{length}
 use lib.Dec.{ltb}
-use Rattle.core.specs.declared.cursor.ByteOrder.the-variants.{Little}
 use Rattle.strip_records.specs.Whole.{Lists, Whole}
 use Rattle.strip_write.specs.Write.{writeAnswer, writeOutput}
 use Rattle.flat_records.specs.Records.{recordOf}
-use Rattle.exports_answers.specs.Answers.{writtenAnswer, Returned, returned, given}
+use Rattle.exports_answers.specs.Answers.{ofOrder, writtenAnswer, Returned, returned, given}
 use Rattle.flat_write.specs.Bodies.{bodyAnswer, bodyOutput}
 use Rattle.exports_parts.specs.Parts.{ofRecord, labelOutcome, captionOutcome}
 use Rattle.exports_read.specs.Outcomes.{ReadOutcome, sectionOutcome, bodyOutcome}
@@ -28,15 +27,17 @@ writeOutcome x o = record { answer = x; out = o }
 abbrev pub wholeOf : List ℕ → Lists → List ℕ → Whole
 wholeOf w l label = record { pane = recordOf w; lists = l; label = label }
 
-unfoldable pub sectionWritten : List ℕ → Lists → List ℕ → List ℕ → ℕ → WriteOutcome
-sectionWritten w l label o p =
+unfoldable pub sectionWritten : ℕ → List ℕ → Lists → List ℕ → List ℕ → ℕ → WriteOutcome
+sectionWritten n w l label o p =
+    ofOrder n (λ x. writeOutcome x o) (λ order.
     ofRecord w (λ x. writeOutcome x o)
-    (writeOutcome (writtenAnswer (writeAnswer (wholeOf w l label) (length o) p)) (writeOutput Little (wholeOf w l label) o p))
+    (writeOutcome (writtenAnswer (writeAnswer (wholeOf w l label) (length o) p)) (writeOutput order (wholeOf w l label) o p)))
 
-unfoldable pub bodyWritten : List ℕ → Lists → List ℕ → List ℕ → ℕ → WriteOutcome
-bodyWritten w l label o body =
+unfoldable pub bodyWritten : ℕ → List ℕ → Lists → List ℕ → List ℕ → ℕ → WriteOutcome
+bodyWritten n w l label o body =
+    ofOrder n (λ x. writeOutcome x o) (λ order.
     ofRecord w (λ x. writeOutcome x o)
-    (writeOutcome (writtenAnswer (bodyAnswer (recordOf w .kind) (wholeOf w l label) (length o) body)) (bodyOutput (recordOf w .kind) (wholeOf w l label) o body))
+    (writeOutcome (writtenAnswer (bodyAnswer (recordOf w .kind) (wholeOf w l label) (length o) body)) (bodyOutput order (recordOf w .kind) (wholeOf w l label) o body)))
 
 -- ---- what the caller sees: the number returned and the answer's words beside the rest. SHORT_ANSWER comes before all
 
@@ -64,19 +65,19 @@ seenWrite x a o = cond (ltb (length a) 3) (writeSeen (returned 7 a) o) (writeSee
 unfoldable pub seenPart : Answer → List ℕ → Returned
 seenPart x a = cond (ltb (length a) 3) (returned 7 a) (given x a)
 
--- ---- THE SIX CALLS, of what is lent: bytes s, a place, lists l, the record's words w, the answer's words a
+-- ---- THE SIX CALLS, of what is lent: bytes s, a place, lists l, the record's words w, the answer's words a; four of them of the number n of a byte order too
 
-abbrev pub readSectionCall : List ℕ → ℕ → Lists → List ℕ → List ℕ → ReadSeen
-readSectionCall s p l w a = seenRead (sectionOutcome s p l w) a w l
+abbrev pub readSectionCall : ℕ → List ℕ → ℕ → Lists → List ℕ → List ℕ → ReadSeen
+readSectionCall n s p l w a = seenRead (sectionOutcome n s p l w) a w l
 
-abbrev pub readBodyCall : ℕ → List ℕ → ℕ → Lists → List ℕ → List ℕ → ReadSeen
-readBodyCall k s body l w a = seenRead (bodyOutcome k s body l w) a w l
+abbrev pub readBodyCall : ℕ → ℕ → List ℕ → ℕ → Lists → List ℕ → List ℕ → ReadSeen
+readBodyCall n k s body l w a = seenRead (bodyOutcome n k s body l w) a w l
 
-abbrev pub writeSectionCall : List ℕ → Lists → List ℕ → List ℕ → ℕ → List ℕ → WriteSeen
-writeSectionCall w l label o p a = seenWrite (sectionWritten w l label o p) a o
+abbrev pub writeSectionCall : ℕ → List ℕ → Lists → List ℕ → List ℕ → ℕ → List ℕ → WriteSeen
+writeSectionCall n w l label o p a = seenWrite (sectionWritten n w l label o p) a o
 
-abbrev pub writeBodyCall : List ℕ → Lists → List ℕ → List ℕ → ℕ → List ℕ → WriteSeen
-writeBodyCall w l label o body a = seenWrite (bodyWritten w l label o body) a o
+abbrev pub writeBodyCall : ℕ → List ℕ → Lists → List ℕ → List ℕ → ℕ → List ℕ → WriteSeen
+writeBodyCall n w l label o body a = seenWrite (bodyWritten n w l label o body) a o
 
 abbrev pub labelCall : List ℕ → List ℕ → List ℕ → Returned
 labelCall s w a = seenPart (labelOutcome s w) a

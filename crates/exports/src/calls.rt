@@ -1,7 +1,9 @@
 // The writes over the words of a record.
 use exports_answers::answers;
 use exports_answers::answers::Answer;
+use exports_answers::answers::bad_order;
 use exports_answers::answers::bad_word;
+use exports_answers::answers::order_of;
 use exports_answers::answers::short_record;
 use exports_parts::parts::record_checked;
 use flat::layout;
@@ -14,6 +16,7 @@ ghost use Rattle.strip_records.specs.Whole.{lists};
 ghost use Rattle.exports.specs.Calls.{writeOutcome, sectionWritten, bodyWritten};
 
 pub(crate) fn write_section(
+    order: u64,
     words: &[u64],
     quads: &[u32],
     units: &[u16],
@@ -23,8 +26,12 @@ pub(crate) fn write_section(
     out: &mut [u8],
     place: usize,
 ) -> Answer
-    ensures { λ a. ⌜ writeOutcome a (now (out .exit)) ≡ sectionWritten (now (words .entry)) (lists (now (quads .entry)) (now (units .entry)) (now (lines .entry)) (now (frames .entry))) (now (label .entry)) (now (out .entry)) place ⌝ }
+    ensures { λ a. ⌜ writeOutcome a (now (out .exit)) ≡ sectionWritten order (now (words .entry)) (lists (now (quads .entry)) (now (units .entry)) (now (lines .entry)) (now (frames .entry))) (now (label .entry)) (now (out .entry)) place ⌝ }
 {
+    if 2 <= order {
+        return bad_order(order);
+    }
+    let o = order_of(order);
     if words.len() < layout::RECORD_WORDS {
         return short_record();
     }
@@ -32,14 +39,15 @@ pub(crate) fn write_section(
     match c {
         Checked::Bad { index } => bad_word(index),
         Checked::Good => {
-            let kind = records::kind_of(words[layout::KIND]);
-            let w = sections::write(kind, words, quads, units, lines, frames, label, out, place);
+            let k = records::kind_of(words[layout::KIND]);
+            let w = sections::write(o, k, words, quads, units, lines, frames, label, out, place);
             answers::written(w)
         }
     }
 }
 
 pub(crate) fn write_body(
+    order: u64,
     words: &[u64],
     quads: &[u32],
     units: &[u16],
@@ -49,8 +57,12 @@ pub(crate) fn write_body(
     out: &mut [u8],
     place: usize,
 ) -> Answer
-    ensures { λ a. ⌜ writeOutcome a (now (out .exit)) ≡ bodyWritten (now (words .entry)) (lists (now (quads .entry)) (now (units .entry)) (now (lines .entry)) (now (frames .entry))) (now (label .entry)) (now (out .entry)) place ⌝ }
+    ensures { λ a. ⌜ writeOutcome a (now (out .exit)) ≡ bodyWritten order (now (words .entry)) (lists (now (quads .entry)) (now (units .entry)) (now (lines .entry)) (now (frames .entry))) (now (label .entry)) (now (out .entry)) place ⌝ }
 {
+    if 2 <= order {
+        return bad_order(order);
+    }
+    let o = order_of(order);
     if words.len() < layout::RECORD_WORDS {
         return short_record();
     }
@@ -58,8 +70,8 @@ pub(crate) fn write_body(
     match c {
         Checked::Bad { index } => bad_word(index),
         Checked::Good => {
-            let kind = records::kind_of(words[layout::KIND]);
-            let w = bodies::write(kind, words, quads, units, lines, frames, label, out, place);
+            let k = records::kind_of(words[layout::KIND]);
+            let w = bodies::write(o, k, words, quads, units, lines, frames, label, out, place);
             answers::written(w)
         }
     }

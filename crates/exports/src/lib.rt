@@ -14,6 +14,7 @@ ghost use Rattle.exports.specs.Calls.{readSeen, writeSeen, readSectionCa
 // The section at a place of data.
 #[no_mangle]
 pub extern "C" fn bidlomeqa_read_section(
+    order: u64,
     data: &[u8],
     place: usize,
     quads: &mut [u32],
@@ -23,18 +24,19 @@ pub extern "C" fn bidlomeqa_read_section(
     record: &mut [u64],
     answer: &mut [u64],
 ) -> u64
-    ensures { λ r. ⌜ readSeen (returned r (now (answer .exit))) (now («record» .exit)) (lists (now (quads .exit)) (now (units .exit)) (now (lines .exit)) (now (frames .exit))) ≡ readSectionCall (now («data» .entry)) place (lists (now (quads .entry)) (now (units .entry)) (now (lines .entry)) (now (frames .entry))) (now («record» .entry)) (now (answer .entry)) ⌝ }
+    ensures { λ r. ⌜ readSeen (returned r (now (answer .exit))) (now («record» .exit)) (lists (now (quads .exit)) (now (units .exit)) (now (lines .exit)) (now (frames .exit))) ≡ readSectionCall order (now («data» .entry)) place (lists (now (quads .entry)) (now (units .entry)) (now (lines .entry)) (now (frames .entry))) (now («record» .entry)) (now (answer .entry)) ⌝ }
 {
     if answer.len() < layout::ANSWER_WORDS {
         return layout::SHORT_ANSWER;
     }
-    let x = reads::read_section(data, place, quads, units, lines, frames, record);
+    let x = reads::read_section(order, data, place, quads, units, lines, frames, record);
     answers::give(answer, x)
 }
 
 // The body of a kind at a place of data.
 #[no_mangle]
 pub extern "C" fn bidlomeqa_read_body(
+    order: u64,
     kind: u64,
     data: &[u8],
     place: usize,
@@ -45,18 +47,29 @@ pub extern "C" fn bidlomeqa_read_body(
     record: &mut [u64],
     answer: &mut [u64],
 ) -> u64
-    ensures { λ r. ⌜ readSeen (returned r (now (answer .exit))) (now («record» .exit)) (lists (now (quads .exit)) (now (units .exit)) (now (lines .exit)) (now (frames .exit))) ≡ readBodyCall kind (now («data» .entry)) place (lists (now (quads .entry)) (now (units .entry)) (now (lines .entry)) (now (frames .entry))) (now («record» .entry)) (now (answer .entry)) ⌝ }
+    ensures { λ r. ⌜ readSeen (returned r (now (answer .exit))) (now («record» .exit)) (lists (now (quads .exit)) (now (units .exit)) (now (lines .exit)) (now (frames .exit))) ≡ readBodyCall order kind (now («data» .entry)) place (lists (now (quads .entry)) (now (units .entry)) (now (lines .entry)) (now (frames .entry))) (now («record» .entry)) (now (answer .entry)) ⌝ }
 {
     if answer.len() < layout::ANSWER_WORDS {
         return layout::SHORT_ANSWER;
     }
-    let x = reads::read_body(kind, data, place, quads, units, lines, frames, record);
+    let x = reads::read_body(
+        order,
+        kind,
+        data,
+        place,
+        quads,
+        units,
+        lines,
+        frames,
+        record,
+    );
     answers::give(answer, x)
 }
 
 // The section of a record at a place of out.
 #[no_mangle]
 pub extern "C" fn bidlomeqa_write_section(
+    order: u64,
     record: &[u64],
     quads: &[u32],
     units: &[u16],
@@ -67,18 +80,29 @@ pub extern "C" fn bidlomeqa_write_section(
     place: usize,
     answer: &mut [u64],
 ) -> u64
-    ensures { λ r. ⌜ writeSeen (returned r (now (answer .exit))) (now (out .exit)) ≡ writeSectionCall (now («record» .entry)) (lists (now (quads .entry)) (now (units .entry)) (now (lines .entry)) (now (frames .entry))) (now (label .entry)) (now (out .entry)) place (now (answer .entry)) ⌝ }
+    ensures { λ r. ⌜ writeSeen (returned r (now (answer .exit))) (now (out .exit)) ≡ writeSectionCall order (now («record» .entry)) (lists (now (quads .entry)) (now (units .entry)) (now (lines .entry)) (now (frames .entry))) (now (label .entry)) (now (out .entry)) place (now (answer .entry)) ⌝ }
 {
     if answer.len() < layout::ANSWER_WORDS {
         return layout::SHORT_ANSWER;
     }
-    let x = calls::write_section(record, quads, units, lines, frames, label, out, place);
+    let x = calls::write_section(
+        order,
+        record,
+        quads,
+        units,
+        lines,
+        frames,
+        label,
+        out,
+        place,
+    );
     answers::give(answer, x)
 }
 
 // The body of a record at a place of out.
 #[no_mangle]
 pub extern "C" fn bidlomeqa_write_body(
+    order: u64,
     record: &[u64],
     quads: &[u32],
     units: &[u16],
@@ -89,12 +113,22 @@ pub extern "C" fn bidlomeqa_write_body(
     place: usize,
     answer: &mut [u64],
 ) -> u64
-    ensures { λ r. ⌜ writeSeen (returned r (now (answer .exit))) (now (out .exit)) ≡ writeBodyCall (now («record» .entry)) (lists (now (quads .entry)) (now (units .entry)) (now (lines .entry)) (now (frames .entry))) (now (label .entry)) (now (out .entry)) place (now (answer .entry)) ⌝ }
+    ensures { λ r. ⌜ writeSeen (returned r (now (answer .exit))) (now (out .exit)) ≡ writeBodyCall order (now («record» .entry)) (lists (now (quads .entry)) (now (units .entry)) (now (lines .entry)) (now (frames .entry))) (now (label .entry)) (now (out .entry)) place (now (answer .entry)) ⌝ }
 {
     if answer.len() < layout::ANSWER_WORDS {
         return layout::SHORT_ANSWER;
     }
-    let x = calls::write_body(record, quads, units, lines, frames, label, out, place);
+    let x = calls::write_body(
+        order,
+        record,
+        quads,
+        units,
+        lines,
+        frames,
+        label,
+        out,
+        place,
+    );
     answers::give(answer, x)
 }
 

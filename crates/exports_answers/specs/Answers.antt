@@ -1,8 +1,12 @@
 -- What a call answers: the number that it returns, and its answer's words. Numbers are those of layout.rt of flat.
-use Prim.Native.Nat.{ℕ}
+use Prim.Native.Nat.{ℕ, zero, suc}
+use mathlib.Core.Bool.{cond}
 use mathlib.Core.List.{List, [], _∷_}
+use lib.Dec.{leb}
 use Rattle.core.specs.Bytes.{splice}
 use Rattle.core.specs.Refusals.{numberOf, figureA, figureB}
+use Rattle.core.specs.declared.cursor.ByteOrder.{ByteOrder}
+use Rattle.core.specs.declared.cursor.ByteOrder.the-variants.{Little, Big}
 use Rattle.core.specs.declared.error.Refusal.{Refusal}
 use Rattle.core_checks.specs.declared.checks.Written.{Written}
 use Rattle.core_checks.specs.declared.checks.Written.the-variants as Writtens
@@ -20,6 +24,19 @@ shortRecord = answer 5 116 0 0
 -- BAD_WORD, of the word at an index
 abbrev pub badWord : ℕ → Answer
 badWord index = answer 6 index 0 0
+
+-- BAD_ORDER, of a number that names no byte order
+abbrev pub badOrder : ℕ → Answer
+badOrder n = answer 9 n 0 0
+
+-- the byte order that a number below 2 names: LITTLE, BIG
+abbrev pub orderOf : ℕ → ByteOrder
+orderOf zero = Little
+orderOf (suc n) = Big
+
+-- what a call gives that is handed the number of a byte order: BAD_ORDER of one that names none, before all else of the call
+abbrev pub ofOrder : {A : Type 0} → ℕ → (Answer → A) → (ByteOrder → A) → A
+ofOrder n bad named = cond (leb 2 n) (bad (badOrder n)) (named (orderOf n))
 
 -- REFUSED: document 01's number and figures
 abbrev pub refusedAnswer : Refusal → Answer

@@ -1,4 +1,5 @@
 // What a call answers: the number that it returns, and its answer's words, each kind of answer in turn.
+use core::cursor::ByteOrder;
 use core::error::Refusal;
 use core_checks::checks::Written;
 use flat::layout;
@@ -6,7 +7,7 @@ use strip_header::Section;
 ghost use mathlib.Core.Path.{_≡_};
 ghost use Prim.Native.Nat.{_≤_};
 ghost use lib.ListN.{length};
-ghost use Rattle.exports_answers.specs.Answers.{shortRecord, badWord, refusedAnswer, sectionAnswer, writtenAnswer, partAnswer, returned, given};
+ghost use Rattle.exports_answers.specs.Answers.{shortRecord, badWord, badOrder, orderOf, refusedAnswer, sectionAnswer, writtenAnswer, partAnswer, returned, given};
 
 pub struct Answer {
     pub code: u64,
@@ -35,6 +36,27 @@ pub fn bad_word(index: usize) -> Answer
         b: 0,
         c: 0,
     }
+}
+
+pub fn bad_order(n: u64) -> Answer
+    ensures { λ r. ⌜ r ≡ badOrder n ⌝ }
+{
+    Answer {
+        code: layout::BAD_ORDER,
+        a: n,
+        b: 0,
+        c: 0,
+    }
+}
+
+// The byte order of a number; an unknown number reads as the last.
+pub fn order_of(n: u64) -> ByteOrder
+    ensures { λ r. ⌜ r ≡ orderOf n ⌝ }
+{
+    if n == layout::LITTLE {
+        return ByteOrder::Little;
+    }
+    ByteOrder::Big
 }
 
 pub fn refused(why: Refusal) -> Answer

@@ -7,7 +7,6 @@ use lib.ListN.{length}
 use lib.Dec.{eqb}
 use Rattle.core.specs.Bytes.{splice}
 use Rattle.core.specs.declared.cursor.ByteOrder.{ByteOrder}
-use Rattle.core.specs.declared.cursor.ByteOrder.the-variants.{Little}
 use Rattle.core.specs.declared.cursor.Place.{Place}
 use Rattle.core.specs.declared.cursor.Place.the-variants as Places
 use Rattle.core_checks.specs.declared.checks.Parsed.{Parsed}
@@ -71,20 +70,20 @@ section-others : (order : ByteOrder) (s : List ℕ) (p : ℕ) (l : Lists) → Ot
 unfolding readSection
 section-others order s p l = refused-others _ _ (end-others (eqb p (length s)) (readAt order s p) (at-others order s p))
 
-parsed-others : (k : Kind) (s : List ℕ) (body : ℕ) (l : Lists) → Others (bodyParsed k s body l .«record»)
+parsed-others : (order : ByteOrder) (k : Kind) (s : List ℕ) (body : ℕ) (l : Lists) → Others (bodyParsed order k s body l .«record»)
 unfolding bodyParsed
-parsed-others Pan1 s body l = (refl, refl, refl, refl)
-parsed-others Pic1 s body l = (refl, refl, refl)
-parsed-others Txt1 s body l = (refl, refl, refl)
-parsed-others Wnd1 s body l = (refl, refl, refl)
-parsed-others Ali1 s body l = (refl, refl, refl)
+parsed-others order Pan1 s body l = (refl, refl, refl, refl)
+parsed-others order Pic1 s body l = (refl, refl, refl)
+parsed-others order Txt1 s body l = (refl, refl, refl)
+parsed-others order Wnd1 s body l = (refl, refl, refl)
+parsed-others order Ali1 s body l = (refl, refl, refl)
 
 -- ---- THE LAW: the words that a read stores are, handed to a write, the record that was read
 
-pub section-again : (s : List ℕ) (p : ℕ) (l : Lists) (w : List ℕ) → TypedWords (readSection Little s p l .«record») → 116 ≤ length w
-    → recordOf (splice w 0 (recordWords (readSection Little s p l .«record»))) ≡ readSection Little s p l .«record»
-section-again s p l w t h = handed-back (readSection Little s p l .«record») w t (section-others Little s p l) h
+pub section-again : (order : ByteOrder) (s : List ℕ) (p : ℕ) (l : Lists) (w : List ℕ) → TypedWords (readSection order s p l .«record») → 116 ≤ length w
+    → recordOf (splice w 0 (recordWords (readSection order s p l .«record»))) ≡ readSection order s p l .«record»
+section-again order s p l w t h = handed-back (readSection order s p l .«record») w t (section-others order s p l) h
 
-pub body-again : (k : Kind) (s : List ℕ) (body : ℕ) (l : Lists) (w : List ℕ) → TypedWords (bodyParsed k s body l .«record») → 116 ≤ length w
-    → recordOf (splice w 0 (recordWords (bodyParsed k s body l .«record»))) ≡ bodyParsed k s body l .«record»
-body-again k s body l w t h = handed-back (bodyParsed k s body l .«record») w t (parsed-others k s body l) h
+pub body-again : (order : ByteOrder) (k : Kind) (s : List ℕ) (body : ℕ) (l : Lists) (w : List ℕ) → TypedWords (bodyParsed order k s body l .«record») → 116 ≤ length w
+    → recordOf (splice w 0 (recordWords (bodyParsed order k s body l .«record»))) ≡ bodyParsed order k s body l .«record»
+body-again order k s body l w t h = handed-back (bodyParsed order k s body l .«record») w t (parsed-others order k s body l) h

@@ -5,7 +5,7 @@ use mathlib.Core.List.{List}
 use lib.ListN.{length}
 use borrow.Author.Tests.{lt-ltb, le-ltb, le-leb, lt-leb}
 use Rattle.core.specs.Bytes.{splice}
-use Rattle.core.specs.declared.cursor.ByteOrder.the-variants.{Little}
+use Rattle.core.specs.declared.cursor.ByteOrder.{ByteOrder}
 use Rattle.core.specs.declared.cursor.Place.{Place}
 use Rattle.core.specs.declared.error.Refusal.{Refusal}
 use Rattle.core_checks.specs.declared.checks.Parsed.{Parsed}
@@ -18,7 +18,7 @@ use Rattle.strip_records.specs.declared.record.Record.{Record}
 use Rattle.strip_header.specs.declared.Section.the-variants as Sections
 use Rattle.strip_read.specs.declared.read.SectionRead.{SectionRead}
 use Rattle.flat_records.specs.Records.{kindOf, recordWords}
-use Rattle.exports_answers.specs.Answers.{shortRecord, badWord, refusedAnswer, sectionAnswer}
+use Rattle.exports_answers.specs.Answers.{shortRecord, badWord, badOrder, orderOf, refusedAnswer, sectionAnswer}
 use Rattle.exports_read.specs.Outcomes.{ReadOutcome, readOutcome, delivered, sectionOutcome, listsParsed, bodyFinished, bodyDelivered, bodyOutcome}
 use Rattle.exports_answers.specs.declared.answers.Answer.{Answer}
 
@@ -51,12 +51,12 @@ module _ (w : List ℕ) (l : Lists) (a : Answer) where
 
 -- ---- the kind that there is
 
-module _ (k e : Kind) (h : k ≡ e) (s : List ℕ) (body : ℕ) (w w′ : List ℕ) (a : Answer) (l l′ : Lists) where
-  pub read-as : (p : Place) (next : ℕ) → l′ ≡ bodyLists Little e s p body l → readOutcome a w′ l′ ≡ delivered (readBody Little e s p body next) w l′
-      → readOutcome a w′ l′ ≡ delivered (readBody Little k s p body next) w (bodyLists Little k s p body l)
+module _ (order : ByteOrder) (k e : Kind) (h : k ≡ e) (s : List ℕ) (body : ℕ) (w w′ : List ℕ) (a : Answer) (l l′ : Lists) where
+  pub read-as : (p : Place) (next : ℕ) → l′ ≡ bodyLists order e s p body l → readOutcome a w′ l′ ≡ delivered (readBody order e s p body next) w l′
+      → readOutcome a w′ l′ ≡ delivered (readBody order k s p body next) w (bodyLists order k s p body l)
   read-as p next el d = rw (h, ← el) d
 
-  pub parsed-as : l′ ≡ listsParsed e s body l → readOutcome a w′ l′ ≡ delivered (bodyFinished e s body l) w l′ → readOutcome a w′ l′ ≡ bodyDelivered k s body l w
+  pub parsed-as : l′ ≡ listsParsed order e s body l → readOutcome a w′ l′ ≡ delivered (bodyFinished order e s body l) w l′ → readOutcome a w′ l′ ≡ bodyDelivered order k s body l w
   unfolding bodyDelivered
   parsed-as el d = rw (h, ← el) d
 
@@ -67,24 +67,32 @@ module _ (o : ReadOutcome) (w : List ℕ) where
   pub delivered-on : (r v : SectionRead) (l m : Lists) → r ≡ v → l ≡ m → o ≡ delivered r w l → o ≡ delivered v w m
   delivered-on r v l m er el d = rw (← er, ← el) d
 
-  module _ (s : List ℕ) (p : ℕ) (l : Lists) where
-    pub section-short : length w < 116 → o ≡ readOutcome shortRecord w l → o ≡ sectionOutcome s p l w
+  module _ (n : ℕ) (s : List ℕ) (p : ℕ) (l : Lists) where
+    pub section-other : 2 ≤ n → o ≡ readOutcome (badOrder n) w l → o ≡ sectionOutcome n s p l w
     unfolding sectionOutcome
-    section-short h e = rw (lt-ltb (length w) 116 h) e
+    section-other h e = rw (le-leb 2 n h) e
 
-    pub section-read : 116 ≤ length w → o ≡ delivered (readSection Little s p l) w (listsAfter Little s p l) → o ≡ sectionOutcome s p l w
+    pub section-short : n < 2 → length w < 116 → o ≡ readOutcome shortRecord w l → o ≡ sectionOutcome n s p l w
     unfolding sectionOutcome
-    section-read h e = rw (le-ltb (length w) 116 h) e
+    section-short g h e = rw (lt-leb 2 n g, lt-ltb (length w) 116 h) e
+
+    pub section-read : (order : ByteOrder) → n < 2 → order ≡ orderOf n → 116 ≤ length w → o ≡ delivered (readSection order s p l) w (listsAfter order s p l) → o ≡ sectionOutcome n s p l w
+    unfolding sectionOutcome
+    section-read order g eo h e = rw (lt-leb 2 n g, le-ltb (length w) 116 h, ← eo) e
 
     module _ (k : ℕ) where
-      pub body-short : length w < 116 → o ≡ readOutcome shortRecord w l → o ≡ bodyOutcome k s p l w
+      pub body-other : 2 ≤ n → o ≡ readOutcome (badOrder n) w l → o ≡ bodyOutcome n k s p l w
       unfolding bodyOutcome
-      body-short h e = rw (lt-ltb (length w) 116 h) e
+      body-other h e = rw (le-leb 2 n h) e
 
-      pub body-bad : 116 ≤ length w → 5 ≤ k → o ≡ readOutcome (badWord 0) w l → o ≡ bodyOutcome k s p l w
+      pub body-short : n < 2 → length w < 116 → o ≡ readOutcome shortRecord w l → o ≡ bodyOutcome n k s p l w
       unfolding bodyOutcome
-      body-bad h b e = rw (le-ltb (length w) 116 h, le-leb 5 k b) e
+      body-short g h e = rw (lt-leb 2 n g, lt-ltb (length w) 116 h) e
 
-      pub body-read : (kind : Kind) → 116 ≤ length w → k < 5 → kind ≡ kindOf k → o ≡ bodyDelivered kind s p l w → o ≡ bodyOutcome k s p l w
+      pub body-bad : n < 2 → 116 ≤ length w → 5 ≤ k → o ≡ readOutcome (badWord 0) w l → o ≡ bodyOutcome n k s p l w
       unfolding bodyOutcome
-      body-read kind h g ek e = rw (le-ltb (length w) 116 h, lt-leb 5 k g, ← ek) e
+      body-bad g h b e = rw (lt-leb 2 n g, le-ltb (length w) 116 h, le-leb 5 k b) e
+
+      pub body-read : (order : ByteOrder) (kind : Kind) → n < 2 → order ≡ orderOf n → 116 ≤ length w → k < 5 → kind ≡ kindOf k → o ≡ bodyDelivered order kind s p l w → o ≡ bodyOutcome n k s p l w
+      unfolding bodyOutcome
+      body-read order kind g eo h f ek e = rw (lt-leb 2 n g, le-ltb (length w) 116 h, lt-leb 5 k f, ← eo, ← ek) e

@@ -5,7 +5,7 @@ use mathlib.Core.List.{List}
 use lib.ListN.{length}
 use lib.Dec.{ltb, leb}
 use Rattle.core.specs.Bytes.{splice}
-use Rattle.core.specs.declared.cursor.ByteOrder.the-variants.{Little}
+use Rattle.core.specs.declared.cursor.ByteOrder.{ByteOrder}
 use Rattle.pane.specs.Body.{paneParsed}
 use Rattle.pane.specs.declared.body.PaneParsed.{PaneParsed}
 use Rattle.picture.specs.Body.{pictureParsed, quadsParsed}
@@ -26,7 +26,7 @@ use Rattle.strip_header.specs.declared.Section.{Section}
 use Rattle.strip_header.specs.declared.Section.the-variants as Sections
 use Rattle.strip_read.specs.declared.read.SectionRead.{SectionRead}
 use Rattle.flat_records.specs.Records.{kindOf, recordWords}
-use Rattle.exports_answers.specs.Answers.{shortRecord, badWord, sectionAnswer}
+use Rattle.exports_answers.specs.Answers.{shortRecord, badWord, ofOrder, sectionAnswer}
 use Rattle.exports_answers.specs.declared.answers.Answer.{Answer}
 
 -- an answer, with the record's words and the lists after it
@@ -48,56 +48,59 @@ wordsAfter (Sections.Refused why) r w = w
 unfoldable pub delivered : SectionRead → List ℕ → Lists → ReadOutcome
 delivered r w l = readOutcome (sectionAnswer (r .answer)) (wordsAfter (r .answer) (r .«record») w) l
 
--- the section at p of s; SHORT_RECORD before it
-unfoldable pub sectionOutcome : List ℕ → ℕ → Lists → List ℕ → ReadOutcome
-sectionOutcome s p l w =
-    cond (ltb (length w) 116) (readOutcome shortRecord w l) (delivered (readSection Little s p l) w (listsAfter Little s p l))
+-- the section at p of s; BAD_ORDER and SHORT_RECORD before it
+unfoldable pub sectionOutcome : ℕ → List ℕ → ℕ → Lists → List ℕ → ReadOutcome
+sectionOutcome n s p l w =
+    ofOrder n (λ x. readOutcome x w l) (λ order.
+    cond (ltb (length w) 116) (readOutcome shortRecord w l)
+    (delivered (readSection order s p l) w (listsAfter order s p l)))
 
 -- the body of a kind at B, as its body call reads it; what the other kinds have is blank
-unfoldable pub bodyParsed : Kind → List ℕ → ℕ → Lists → BodyRead
-bodyParsed Pan1 s body l =
-    let r : PaneParsed = paneParsed Little s body in
+unfoldable pub bodyParsed : ByteOrder → Kind → List ℕ → ℕ → Lists → BodyRead
+bodyParsed order Pan1 s body l =
+    let r : PaneParsed = paneParsed order s body in
     record { answer = r .answer; «record» = pan1 (r .pane) }
-bodyParsed Pic1 s body l =
-    let r : PictureParsed = pictureParsed Little s body (length (l .quads)) in
+bodyParsed order Pic1 s body l =
+    let r : PictureParsed = pictureParsed order s body (length (l .quads)) in
     record { answer = r .answer; «record» = pic1 (r .base) (r .picture) }
-bodyParsed Txt1 s body l =
-    let r : TextBoxParsed = textBoxRead Little s (textBoxStart (length s) (length (l .units)) (length (l .lines)) body) body in
+bodyParsed order Txt1 s body l =
+    let r : TextBoxParsed = textBoxRead order s (textBoxStart (length s) (length (l .units)) (length (l .lines)) body) body in
     record { answer = r .answer; «record» = txt1 (r .base) (r .«text_box») }
-bodyParsed Wnd1 s body l =
-    let r : WindowParsed = windowParsed Little s body (l .quads) (l .frames) in
+bodyParsed order Wnd1 s body l =
+    let r : WindowParsed = windowParsed order s body (l .quads) (l .frames) in
     record { answer = r .answer; «record» = wnd1 (r .base) (r .window) }
-bodyParsed Ali1 s body l =
-    let r : AlignmentParsed = alignmentParsed Little s body in
+bodyParsed order Ali1 s body l =
+    let r : AlignmentParsed = alignmentParsed order s body in
     record { answer = r .answer; «record» = ali1 (r .base) (r .alignment) }
 
 -- the lists after it
-abbrev pub unitsParsed : List ℕ → ℕ → List ℕ → List ℕ → List ℕ
-unitsParsed s body units lines = unitsAfter Little s (textBoxStart (length s) (length units) (length lines) body) body units
+abbrev pub unitsParsed : ByteOrder → List ℕ → ℕ → List ℕ → List ℕ → List ℕ
+unitsParsed order s body units lines = unitsAfter order s (textBoxStart (length s) (length units) (length lines) body) body units
 
-abbrev pub linesParsed : List ℕ → ℕ → List ℕ → List ℕ → List ℕ
-linesParsed s body units lines = linesAfter Little s (textBoxStart (length s) (length units) (length lines) body) body lines
+abbrev pub linesParsed : ByteOrder → List ℕ → ℕ → List ℕ → List ℕ → List ℕ
+linesParsed order s body units lines = linesAfter order s (textBoxStart (length s) (length units) (length lines) body) body lines
 
-unfoldable pub listsParsed : Kind → List ℕ → ℕ → Lists → Lists
-listsParsed Pan1 s body l = l
-listsParsed Pic1 s body l = lists (quadsParsed Little s body (l .quads)) (l .units) (l .lines) (l .frames)
-listsParsed Txt1 s body l = lists (l .quads) (unitsParsed s body (l .units) (l .lines)) (linesParsed s body (l .units) (l .lines)) (l .frames)
-listsParsed Wnd1 s body l =
-    lists (parsedQuads Little s body (l .quads) (l .frames)) (l .units) (l .lines) (parsedFrames Little s body (l .quads) (l .frames))
-listsParsed Ali1 s body l = l
+unfoldable pub listsParsed : ByteOrder → Kind → List ℕ → ℕ → Lists → Lists
+listsParsed order Pan1 s body l = l
+listsParsed order Pic1 s body l = lists (quadsParsed order s body (l .quads)) (l .units) (l .lines) (l .frames)
+listsParsed order Txt1 s body l = lists (l .quads) (unitsParsed order s body (l .units) (l .lines)) (linesParsed order s body (l .units) (l .lines)) (l .frames)
+listsParsed order Wnd1 s body l =
+    lists (parsedQuads order s body (l .quads) (l .frames)) (l .units) (l .lines) (parsedFrames order s body (l .quads) (l .frames))
+listsParsed order Ali1 s body l = l
 
 -- as a section whose next place is 0
-unfoldable pub bodyFinished : Kind → List ℕ → ℕ → Lists → SectionRead
-bodyFinished kind s body l =
-    let b : BodyRead = bodyParsed kind s body l in
+unfoldable pub bodyFinished : ByteOrder → Kind → List ℕ → ℕ → Lists → SectionRead
+bodyFinished order kind s body l =
+    let b : BodyRead = bodyParsed order kind s body l in
     finished (b .answer) 0 (b .«record»)
 
-unfoldable pub bodyDelivered : Kind → List ℕ → ℕ → Lists → List ℕ → ReadOutcome
-bodyDelivered kind s body l w = delivered (bodyFinished kind s body l) w (listsParsed kind s body l)
+unfoldable pub bodyDelivered : ByteOrder → Kind → List ℕ → ℕ → Lists → List ℕ → ReadOutcome
+bodyDelivered order kind s body l w = delivered (bodyFinished order kind s body l) w (listsParsed order kind s body l)
 
--- SHORT_RECORD, then BAD_WORD of the kind, then the body at B
-unfoldable pub bodyOutcome : ℕ → List ℕ → ℕ → Lists → List ℕ → ReadOutcome
-bodyOutcome k s body l w =
+-- BAD_ORDER, then SHORT_RECORD, then BAD_WORD of the kind, then the body at B
+unfoldable pub bodyOutcome : ℕ → ℕ → List ℕ → ℕ → Lists → List ℕ → ReadOutcome
+bodyOutcome n k s body l w =
+    ofOrder n (λ x. readOutcome x w l) (λ order.
     cond (ltb (length w) 116) (readOutcome shortRecord w l)
     (cond (leb 5 k) (readOutcome (badWord 0) w l)
-    (bodyDelivered (kindOf k) s body l w))
+    (bodyDelivered order (kindOf k) s body l w)))

@@ -16,22 +16,28 @@ ghost use Rattle.window.specs.Body.{parsedQuads, parsedFrames};
 ghost use Rattle.strip_records.specs.Whole.{Lists, lists, noLists};
 ghost use Rattle.exports_read.specs.Outcomes.{readOutcome, delivered, unitsParsed, linesParsed, bodyFinished, bodyDelivered};
 
-fn parse_pan1(data: &[u8], place: usize, words: &mut [u64]) -> Answer
+fn parse_pan1(order: ByteOrder, data: &[u8], place: usize, words: &mut [u64]) -> Answer
     requires { ⌜ 116 ≤ length (now words) ⌝ }
-    ensures { λ a. ⌜ ((l : Lists) → readOutcome a (now (words .exit)) l ≡ delivered (bodyFinished Kind.Pan1 (now («data» .entry)) place noLists) (now (words .entry)) l) ⌝ }
+    ensures { λ a. ⌜ ((l : Lists) → readOutcome a (now (words .exit)) l ≡ delivered (bodyFinished order Kind.Pan1 (now («data» .entry)) place noLists) (now (words .entry)) l) ⌝ }
 {
-    let read = pane::body::parse(ByteOrder::Little, data, place);
+    let read = pane::body::parse(order, data, place);
     let answer = read.answer;
     let base = read.pane;
     deliver_pan1(words, answer, 0, base)
 }
 
-fn parse_pic1(data: &[u8], place: usize, quads: &mut [u32], words: &mut [u64]) -> Answer
+fn parse_pic1(
+    order: ByteOrder,
+    data: &[u8],
+    place: usize,
+    quads: &mut [u32],
+    words: &mut [u64],
+) -> Answer
     requires { ⌜ 116 ≤ length (now words) ⌝ }
-    ensures { λ a. ⌜ ((l : Lists) → readOutcome a (now (words .exit)) l ≡ delivered (bodyFinished Kind.Pic1 (now («data» .entry)) place (lists (now (quads .entry)) [] [] [])) (now (words .entry)) l) ⌝ }
-    ensures { λ _. ⌜ now (quads .exit) ≡ quadsParsed ByteOrder.Little (now («data» .entry)) place (now (quads .entry)) ⌝ }
+    ensures { λ a. ⌜ ((l : Lists) → readOutcome a (now (words .exit)) l ≡ delivered (bodyFinished order Kind.Pic1 (now («data» .entry)) place (lists (now (quads .entry)) [] [] [])) (now (words .entry)) l) ⌝ }
+    ensures { λ _. ⌜ now (quads .exit) ≡ quadsParsed order (now («data» .entry)) place (now (quads .entry)) ⌝ }
 {
-    let read = picture::body::parse(ByteOrder::Little, data, place, quads);
+    let read = picture::body::parse(order, data, place, quads);
     let answer = read.answer;
     let base = read.base;
     let own = read.picture;
@@ -39,6 +45,7 @@ fn parse_pic1(data: &[u8], place: usize, quads: &mut [u32], words: &mut [u64]) -
 }
 
 fn parse_txt1(
+    order: ByteOrder,
     data: &[u8],
     place: usize,
     units: &mut [u16],
@@ -46,10 +53,10 @@ fn parse_txt1(
     words: &mut [u64],
 ) -> Answer
     requires { ⌜ 116 ≤ length (now words) ⌝ }
-    ensures { λ a. ⌜ ((l : Lists) → readOutcome a (now (words .exit)) l ≡ delivered (bodyFinished Kind.Txt1 (now («data» .entry)) place (lists [] (now (units .entry)) (now (lines .entry)) [])) (now (words .entry)) l) ⌝ }
-    ensures { λ _. ⌜ (now (units .exit) ≡ unitsParsed (now («data» .entry)) place (now (units .entry)) (now (lines .entry))) × (now (lines .exit) ≡ linesParsed (now («data» .entry)) place (now (units .entry)) (now (lines .entry))) ⌝ }
+    ensures { λ a. ⌜ ((l : Lists) → readOutcome a (now (words .exit)) l ≡ delivered (bodyFinished order Kind.Txt1 (now («data» .entry)) place (lists [] (now (units .entry)) (now (lines .entry)) [])) (now (words .entry)) l) ⌝ }
+    ensures { λ _. ⌜ (now (units .exit) ≡ unitsParsed order (now («data» .entry)) place (now (units .entry)) (now (lines .entry))) × (now (lines .exit) ≡ linesParsed order (now («data» .entry)) place (now (units .entry)) (now (lines .entry))) ⌝ }
 {
-    let read = text_box::body::parse(ByteOrder::Little, data, place, units, lines);
+    let read = text_box::body::parse(order, data, place, units, lines);
     let answer = read.answer;
     let base = read.base;
     let own = read.text_box;
@@ -57,6 +64,7 @@ fn parse_txt1(
 }
 
 fn parse_wnd1(
+    order: ByteOrder,
     data: &[u8],
     place: usize,
     quads: &mut [u32],
@@ -64,21 +72,21 @@ fn parse_wnd1(
     words: &mut [u64],
 ) -> Answer
     requires { ⌜ 116 ≤ length (now words) ⌝ }
-    ensures { λ a. ⌜ ((l : Lists) → readOutcome a (now (words .exit)) l ≡ delivered (bodyFinished Kind.Wnd1 (now («data» .entry)) place (lists (now (quads .entry)) [] [] (now (frames .entry)))) (now (words .entry)) l) ⌝ }
-    ensures { λ _. ⌜ (now (quads .exit) ≡ parsedQuads ByteOrder.Little (now («data» .entry)) place (now (quads .entry)) (now (frames .entry))) × (now (frames .exit) ≡ parsedFrames ByteOrder.Little (now («data» .entry)) place (now (quads .entry)) (now (frames .entry))) ⌝ }
+    ensures { λ a. ⌜ ((l : Lists) → readOutcome a (now (words .exit)) l ≡ delivered (bodyFinished order Kind.Wnd1 (now («data» .entry)) place (lists (now (quads .entry)) [] [] (now (frames .entry)))) (now (words .entry)) l) ⌝ }
+    ensures { λ _. ⌜ (now (quads .exit) ≡ parsedQuads order (now («data» .entry)) place (now (quads .entry)) (now (frames .entry))) × (now (frames .exit) ≡ parsedFrames order (now («data» .entry)) place (now (quads .entry)) (now (frames .entry))) ⌝ }
 {
-    let read = window::body::parse(ByteOrder::Little, data, place, quads, frames);
+    let read = window::body::parse(order, data, place, quads, frames);
     let answer = read.answer;
     let base = read.base;
     let own = read.window;
     deliver_wnd1(words, answer, 0, base, own)
 }
 
-fn parse_ali1(data: &[u8], place: usize, words: &mut [u64]) -> Answer
+fn parse_ali1(order: ByteOrder, data: &[u8], place: usize, words: &mut [u64]) -> Answer
     requires { ⌜ 116 ≤ length (now words) ⌝ }
-    ensures { λ a. ⌜ ((l : Lists) → readOutcome a (now (words .exit)) l ≡ delivered (bodyFinished Kind.Ali1 (now («data» .entry)) place noLists) (now (words .entry)) l) ⌝ }
+    ensures { λ a. ⌜ ((l : Lists) → readOutcome a (now (words .exit)) l ≡ delivered (bodyFinished order Kind.Ali1 (now («data» .entry)) place noLists) (now (words .entry)) l) ⌝ }
 {
-    let read = alignment::body::parse(ByteOrder::Little, data, place);
+    let read = alignment::body::parse(order, data, place);
     let answer = read.answer;
     let base = read.base;
     let own = read.alignment;
@@ -86,6 +94,7 @@ fn parse_ali1(data: &[u8], place: usize, words: &mut [u64]) -> Answer
 }
 
 pub(crate) fn parse_kind(
+    order: ByteOrder,
     kind: Kind,
     data: &[u8],
     place: usize,
@@ -96,13 +105,13 @@ pub(crate) fn parse_kind(
     words: &mut [u64],
 ) -> Answer
     requires { ⌜ 116 ≤ length (now words) ⌝ }
-    ensures { λ a. ⌜ readOutcome a (now (words .exit)) (lists (now (quads .exit)) (now (units .exit)) (now (lines .exit)) (now (frames .exit))) ≡ bodyDelivered kind (now («data» .entry)) place (lists (now (quads .entry)) (now (units .entry)) (now (lines .entry)) (now (frames .entry))) (now (words .entry)) ⌝ }
+    ensures { λ a. ⌜ readOutcome a (now (words .exit)) (lists (now (quads .exit)) (now (units .exit)) (now (lines .exit)) (now (frames .exit))) ≡ bodyDelivered order kind (now («data» .entry)) place (lists (now (quads .entry)) (now (units .entry)) (now (lines .entry)) (now (frames .entry))) (now (words .entry)) ⌝ }
 {
     match kind {
-        Kind::Pan1 => parse_pan1(data, place, words),
-        Kind::Pic1 => parse_pic1(data, place, quads, words),
-        Kind::Txt1 => parse_txt1(data, place, units, lines, words),
-        Kind::Wnd1 => parse_wnd1(data, place, quads, frames, words),
-        Kind::Ali1 => parse_ali1(data, place, words),
+        Kind::Pan1 => parse_pan1(order, data, place, words),
+        Kind::Pic1 => parse_pic1(order, data, place, quads, words),
+        Kind::Txt1 => parse_txt1(order, data, place, units, lines, words),
+        Kind::Wnd1 => parse_wnd1(order, data, place, quads, frames, words),
+        Kind::Ali1 => parse_ali1(order, data, place, words),
     }
 }

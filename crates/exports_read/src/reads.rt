@@ -21,6 +21,7 @@ ghost use Rattle.exports_read.specs.Outcomes.{readOutcome, delivered, se
 // ---- a section
 
 fn read_at(
+    order: ByteOrder,
     data: &[u8],
     place: usize,
     quads: &mut [u32],
@@ -30,9 +31,9 @@ fn read_at(
     words: &mut [u64],
 ) -> Answer
     requires { ⌜ (place ≤ length (now «data»)) × (length (now «data») ≤ 16777216) × Full (lists (now quads) (now units) (now lines) (now frames)) × (116 ≤ length (now words)) ⌝ }
-    ensures { λ a. ⌜ readOutcome a (now (words .exit)) (lists (now (quads .exit)) (now (units .exit)) (now (lines .exit)) (now (frames .exit))) ≡ delivered (readAt ByteOrder.Little (now («data» .entry)) place) (now (words .entry)) (listsAt ByteOrder.Little (now («data» .entry)) place (lists (now (quads .entry)) (now (units .entry)) (now (lines .entry)) (now (frames .entry)))) ⌝ }
+    ensures { λ a. ⌜ readOutcome a (now (words .exit)) (lists (now (quads .exit)) (now (units .exit)) (now (lines .exit)) (now (frames .exit))) ≡ delivered (readAt order (now («data» .entry)) place) (now (words .entry)) (listsAt order (now («data» .entry)) place (lists (now (quads .entry)) (now (units .entry)) (now (lines .entry)) (now (frames .entry)))) ⌝ }
 {
-    let header = strip_header::take_header(ByteOrder::Little, data, place);
+    let header = strip_header::take_header(order, data, place);
     let letters = header.letters;
     let size = header.size;
     let then = header.then;
@@ -45,6 +46,7 @@ fn read_at(
                 KindFound::Is(kind) => {
                     let p = Place::At(c);
                     sections::read_kind(
+                        order,
                         kind,
                         data,
                         p,
@@ -63,8 +65,9 @@ fn read_at(
     }
 }
 
-// SHORT_RECORD, and then the section at a place.
+// BAD_ORDER, SHORT_RECORD, and then the section at a place.
 pub fn read_section(
+    order: u64,
     data: &[u8],
     place: usize,
     quads: &mut [u32],
@@ -73,8 +76,12 @@ pub fn read_section(
     frames: &mut [u16],
     words: &mut [u64],
 ) -> Answer
-    ensures { λ a. ⌜ readOutcome a (now (words .exit)) (lists (now (quads .exit)) (now (units .exit)) (now (lines .exit)) (now (frames .exit))) ≡ sectionOutcome (now («data» .entry)) place (lists (now (quads .entry)) (now (units .entry)) (now (lines .entry)) (now (frames .entry))) (now (words .entry)) ⌝ }
+    ensures { λ a. ⌜ readOutcome a (now (words .exit)) (lists (now (quads .exit)) (now (units .exit)) (now (lines .exit)) (now (frames .exit))) ≡ sectionOutcome order (now («data» .entry)) place (lists (now (quads .entry)) (now (units .entry)) (now (lines .entry)) (now (frames .entry))) (now (words .entry)) ⌝ }
 {
+    if 2 <= order {
+        return answers::bad_order(order);
+    }
+    let o = answers::order_of(order);
     if words.len() < layout::RECORD_WORDS {
         return answers::short_record();
     }
@@ -92,7 +99,7 @@ pub fn read_section(
             if place == data.len() {
                 answers::section(Section::End)
             } else {
-                read_at(data, place, quads, units, lines, frames, words)
+                read_at(o, data, place, quads, units, lines, frames, words)
             }
         }
     }
@@ -100,8 +107,9 @@ pub fn read_section(
 
 // ---- a body
 
-// SHORT_RECORD, BAD_WORD of the kind, and then its body at a place.
+// BAD_ORDER, SHORT_RECORD, BAD_WORD of the kind, and then its body at a place.
 pub fn read_body(
+    order: u64,
     kind: u64,
     data: &[u8],
     place: usize,
@@ -111,8 +119,12 @@ pub fn read_body(
     frames: &mut [u16],
     words: &mut [u64],
 ) -> Answer
-    ensures { λ a. ⌜ readOutcome a (now (words .exit)) (lists (now (quads .exit)) (now (units .exit)) (now (lines .exit)) (now (frames .exit))) ≡ bodyOutcome kind (now («data» .entry)) place (lists (now (quads .entry)) (now (units .entry)) (now (lines .entry)) (now (frames .entry))) (now (words .entry)) ⌝ }
+    ensures { λ a. ⌜ readOutcome a (now (words .exit)) (lists (now (quads .exit)) (now (units .exit)) (now (lines .exit)) (now (frames .exit))) ≡ bodyOutcome order kind (now («data» .entry)) place (lists (now (quads .entry)) (now (units .entry)) (now (lines .entry)) (now (frames .entry))) (now (words .entry)) ⌝ }
 {
+    if 2 <= order {
+        return answers::bad_order(order);
+    }
+    let o = answers::order_of(order);
     if words.len() < layout::RECORD_WORDS {
         return answers::short_record();
     }
@@ -120,5 +132,5 @@ pub fn read_body(
         return answers::bad_word(0);
     }
     let k = records::kind_of(kind);
-    bodies::parse_kind(k, data, place, quads, units, lines, frames, words)
+    bodies::parse_kind(o, k, data, place, quads, units, lines, frames, words)
 }

@@ -20,17 +20,25 @@ ghost use Rattle.strip_read.specs.Read.{readBody};
 ghost use Rattle.strip_records.specs.Whole.{Full};
 ghost use Rattle.exports_read.specs.Outcomes.{readOutcome, delivered};
 
-fn read_pan1(data: &[u8], p: Place, body: usize, next: usize, words: &mut [u64]) -> Answer
+fn read_pan1(
+    order: ByteOrder,
+    data: &[u8],
+    p: Place,
+    body: usize,
+    next: usize,
+    words: &mut [u64],
+) -> Answer
     requires { ⌜ (body < 2 ^ 32) × (116 ≤ length (now words)) ⌝ }
-    ensures { λ a. ⌜ ((l : Lists) → readOutcome a (now (words .exit)) l ≡ delivered (readBody ByteOrder.Little Kind.Pan1 (now («data» .entry)) p body next) (now (words .entry)) l) ⌝ }
+    ensures { λ a. ⌜ ((l : Lists) → readOutcome a (now (words .exit)) l ≡ delivered (readBody order Kind.Pan1 (now («data» .entry)) p body next) (now (words .entry)) l) ⌝ }
 {
-    let read = pane::body::read(ByteOrder::Little, data, p, body);
+    let read = pane::body::read(order, data, p, body);
     let answer = read.answer;
     let base = read.pane;
     deliver_pan1(words, answer, next, base)
 }
 
 fn read_pic1(
+    order: ByteOrder,
     data: &[u8],
     p: Place,
     body: usize,
@@ -39,10 +47,10 @@ fn read_pic1(
     words: &mut [u64],
 ) -> Answer
     requires { ⌜ (body < 2 ^ 32) × (2040 ≤ length (now quads)) × (116 ≤ length (now words)) ⌝ }
-    ensures { λ a. ⌜ ((l : Lists) → readOutcome a (now (words .exit)) l ≡ delivered (readBody ByteOrder.Little Kind.Pic1 (now («data» .entry)) p body next) (now (words .entry)) l) ⌝ }
-    ensures { λ _. ⌜ now (quads .exit) ≡ quadsRead ByteOrder.Little (now («data» .entry)) p body (now (quads .entry)) ⌝ }
+    ensures { λ a. ⌜ ((l : Lists) → readOutcome a (now (words .exit)) l ≡ delivered (readBody order Kind.Pic1 (now («data» .entry)) p body next) (now (words .entry)) l) ⌝ }
+    ensures { λ _. ⌜ now (quads .exit) ≡ quadsRead order (now («data» .entry)) p body (now (quads .entry)) ⌝ }
 {
-    let read = picture::body::read(ByteOrder::Little, data, p, body, quads);
+    let read = picture::body::read(order, data, p, body, quads);
     let answer = read.answer;
     let base = read.base;
     let own = read.picture;
@@ -50,6 +58,7 @@ fn read_pic1(
 }
 
 fn read_txt1(
+    order: ByteOrder,
     data: &[u8],
     p: Place,
     body: usize,
@@ -59,10 +68,10 @@ fn read_txt1(
     words: &mut [u64],
 ) -> Answer
     requires { ⌜ (8 ≤ body) × (body < 2 ^ 32) × (32767 ≤ length (now units)) × (510 ≤ length (now lines)) × (116 ≤ length (now words)) ⌝ }
-    ensures { λ a. ⌜ ((l : Lists) → readOutcome a (now (words .exit)) l ≡ delivered (readBody ByteOrder.Little Kind.Txt1 (now («data» .entry)) p body next) (now (words .entry)) l) ⌝ }
-    ensures { λ _. ⌜ (now (units .exit) ≡ unitsAfter ByteOrder.Little (now («data» .entry)) p body (now (units .entry))) × (now (lines .exit) ≡ linesAfter ByteOrder.Little (now («data» .entry)) p body (now (lines .entry))) ⌝ }
+    ensures { λ a. ⌜ ((l : Lists) → readOutcome a (now (words .exit)) l ≡ delivered (readBody order Kind.Txt1 (now («data» .entry)) p body next) (now (words .entry)) l) ⌝ }
+    ensures { λ _. ⌜ (now (units .exit) ≡ unitsAfter order (now («data» .entry)) p body (now (units .entry))) × (now (lines .exit) ≡ linesAfter order (now («data» .entry)) p body (now (lines .entry))) ⌝ }
 {
-    let read = text_box::body::read(ByteOrder::Little, data, p, body, units, lines);
+    let read = text_box::body::read(order, data, p, body, units, lines);
     let answer = read.answer;
     let base = read.base;
     let own = read.text_box;
@@ -70,6 +79,7 @@ fn read_txt1(
 }
 
 fn read_wnd1(
+    order: ByteOrder,
     data: &[u8],
     p: Place,
     body: usize,
@@ -79,21 +89,28 @@ fn read_wnd1(
     words: &mut [u64],
 ) -> Answer
     requires { ⌜ (8 ≤ body) × (body < 2 ^ 32) × (2040 ≤ length (now quads)) × (510 ≤ length (now frames)) × (116 ≤ length (now words)) ⌝ }
-    ensures { λ a. ⌜ ((l : Lists) → readOutcome a (now (words .exit)) l ≡ delivered (readBody ByteOrder.Little Kind.Wnd1 (now («data» .entry)) p body next) (now (words .entry)) l) ⌝ }
-    ensures { λ _. ⌜ (now (quads .exit) ≡ readQuads ByteOrder.Little (now («data» .entry)) p body (now (quads .entry))) × (now (frames .exit) ≡ readFrames ByteOrder.Little (now («data» .entry)) p body (now (frames .entry))) ⌝ }
+    ensures { λ a. ⌜ ((l : Lists) → readOutcome a (now (words .exit)) l ≡ delivered (readBody order Kind.Wnd1 (now («data» .entry)) p body next) (now (words .entry)) l) ⌝ }
+    ensures { λ _. ⌜ (now (quads .exit) ≡ readQuads order (now («data» .entry)) p body (now (quads .entry))) × (now (frames .exit) ≡ readFrames order (now («data» .entry)) p body (now (frames .entry))) ⌝ }
 {
-    let read = window::body::read(ByteOrder::Little, data, p, body, quads, frames);
+    let read = window::body::read(order, data, p, body, quads, frames);
     let answer = read.answer;
     let base = read.base;
     let own = read.window;
     deliver_wnd1(words, answer, next, base, own)
 }
 
-fn read_ali1(data: &[u8], p: Place, body: usize, next: usize, words: &mut [u64]) -> Answer
+fn read_ali1(
+    order: ByteOrder,
+    data: &[u8],
+    p: Place,
+    body: usize,
+    next: usize,
+    words: &mut [u64],
+) -> Answer
     requires { ⌜ (body < 2 ^ 32) × (116 ≤ length (now words)) ⌝ }
-    ensures { λ a. ⌜ ((l : Lists) → readOutcome a (now (words .exit)) l ≡ delivered (readBody ByteOrder.Little Kind.Ali1 (now («data» .entry)) p body next) (now (words .entry)) l) ⌝ }
+    ensures { λ a. ⌜ ((l : Lists) → readOutcome a (now (words .exit)) l ≡ delivered (readBody order Kind.Ali1 (now («data» .entry)) p body next) (now (words .entry)) l) ⌝ }
 {
-    let read = alignment::body::read(ByteOrder::Little, data, p, body);
+    let read = alignment::body::read(order, data, p, body);
     let answer = read.answer;
     let base = read.base;
     let own = read.alignment;
@@ -101,6 +118,7 @@ fn read_ali1(data: &[u8], p: Place, body: usize, next: usize, words: &mut [u64])
 }
 
 pub(crate) fn read_kind(
+    order: ByteOrder,
     kind: Kind,
     data: &[u8],
     p: Place,
@@ -113,13 +131,13 @@ pub(crate) fn read_kind(
     words: &mut [u64],
 ) -> Answer
     requires { ⌜ (8 ≤ body) × (body < 2 ^ 32) × Full (lists (now quads) (now units) (now lines) (now frames)) × (116 ≤ length (now words)) ⌝ }
-    ensures { λ a. ⌜ readOutcome a (now (words .exit)) (lists (now (quads .exit)) (now (units .exit)) (now (lines .exit)) (now (frames .exit))) ≡ delivered (readBody ByteOrder.Little kind (now («data» .entry)) p body next) (now (words .entry)) (bodyLists ByteOrder.Little kind (now («data» .entry)) p body (lists (now (quads .entry)) (now (units .entry)) (now (lines .entry)) (now (frames .entry)))) ⌝ }
+    ensures { λ a. ⌜ readOutcome a (now (words .exit)) (lists (now (quads .exit)) (now (units .exit)) (now (lines .exit)) (now (frames .exit))) ≡ delivered (readBody order kind (now («data» .entry)) p body next) (now (words .entry)) (bodyLists order kind (now («data» .entry)) p body (lists (now (quads .entry)) (now (units .entry)) (now (lines .entry)) (now (frames .entry)))) ⌝ }
 {
     match kind {
-        Kind::Pan1 => read_pan1(data, p, body, next, words),
-        Kind::Pic1 => read_pic1(data, p, body, next, quads, words),
-        Kind::Txt1 => read_txt1(data, p, body, next, units, lines, words),
-        Kind::Wnd1 => read_wnd1(data, p, body, next, quads, frames, words),
-        Kind::Ali1 => read_ali1(data, p, body, next, words),
+        Kind::Pan1 => read_pan1(order, data, p, body, next, words),
+        Kind::Pic1 => read_pic1(order, data, p, body, next, quads, words),
+        Kind::Txt1 => read_txt1(order, data, p, body, next, units, lines, words),
+        Kind::Wnd1 => read_wnd1(order, data, p, body, next, quads, frames, words),
+        Kind::Ali1 => read_ali1(order, data, p, body, next, words),
     }
 }

@@ -188,6 +188,12 @@ pub const IS_VERTICAL_ALIGNMENT: usize = 65;
 // How many words a record has.
 pub const RECORD_WORDS: usize = 116;
 
+// ---- the byte order of a call
+
+pub const LITTLE: u64 = 0;
+
+pub const BIG: u64 = 1;
+
 // ---- what a call returns, and what it puts into the answer's words
 
 // No section is left. The answer's words: 0, 0, 0.
@@ -216,6 +222,9 @@ pub const SHORT_ANSWER: u64 = 7;
 
 // A label, or a caption from the strip: 0, its place, its length. A caption from the lent one: 1, 0, its length.
 pub const PART: u64 = 8;
+
+// The byte order is neither LITTLE nor BIG: its number, 0, 0. Nothing was read or written.
+pub const BAD_ORDER: u64 = 9;
 
 // How many words an answer has.
 pub const ANSWER_WORDS: usize = 3;

@@ -3,7 +3,7 @@ use mathlib.Core.Path.{_≡_, refl}
 use Prim.Native.Nat.{ℕ}
 use mathlib.Core.List.{List, []}
 use lib.ListN.{length}
-use Rattle.core.specs.declared.cursor.ByteOrder.the-variants.{Little}
+use Rattle.core.specs.declared.cursor.ByteOrder.{ByteOrder}
 use Rattle.core_checks.specs.declared.checks.Written.{Written}
 use Rattle.pane.specs.Body.{paneWritten, paneOutput}
 use Rattle.pane_read.specs.declared.Pane.{Pane}
@@ -25,16 +25,16 @@ use Rattle.flat_text_box.specs.TextBox.{textBoxAt}
 use Rattle.flat_records.specs.Records.{recordBy}
 use Rattle.flat_write.specs.Bodies.{bodyAnswer, bodyOutput}
 
-module _ (o : List ℕ) (p : ℕ) (v : Written) (o′ : List ℕ) where
+module _ (order : ByteOrder) (o : List ℕ) (p : ℕ) (v : Written) (o′ : List ℕ) where
   -- a write into o at p answered v and left o′
   abbrev pub Wrote : Written → List ℕ → Type 0
   Wrote a b = (v ≡ a) × (o′ ≡ b)
 
   abbrev pub SectionWrote : Whole → Type 0
-  SectionWrote x = Wrote (writeAnswer x (length o) p) (writeOutput Little x o p)
+  SectionWrote x = Wrote (writeAnswer x (length o) p) (writeOutput order x o p)
 
   abbrev pub BodyWrote : Kind → Whole → Type 0
-  BodyWrote k x = Wrote (bodyAnswer k x (length o) p) (bodyOutput k x o p)
+  BodyWrote k x = Wrote (bodyAnswer k x (length o) p) (bodyOutput order k x o p)
 
   module _ (w quads units lines frames label : List ℕ) (k : Kind) (b : Pane) (base : b ≡ baseAt w) where
     pub pan1-section : k ≡ Pan1 → SectionWrote (whole (pan1 b) [] [] [] [] []) → SectionWrote (whole (recordBy k w) quads units lines frames label)
@@ -57,26 +57,26 @@ module _ (o : List ℕ) (p : ℕ) (v : Written) (o′ : List ℕ) where
     unfolding recordBy writeAnswer writeOutput writeChecked ownLengthChecked ownNameChecked ownChecked section encodeBody
     ali1-section x e own h = rw (h .0, h .1, e, base, own) (refl, refl)
 
-    pub pan1-body : k ≡ Pan1 → Wrote (paneWritten b (length o) p) (paneOutput Little b o p) → BodyWrote k (whole (recordBy k w) quads units lines frames label)
+    pub pan1-body : k ≡ Pan1 → Wrote (paneWritten b (length o) p) (paneOutput order b o p) → BodyWrote k (whole (recordBy k w) quads units lines frames label)
     unfolding recordBy bodyAnswer bodyOutput
     pan1-body e h = rw (h .0, h .1, e, base) (refl, refl)
 
-    pub pic1-body : (x : PicturePane) → k ≡ Pic1 → x ≡ pictureAt w → Wrote (pictureWritten b x quads (length o) p) (pictureOutput Little b x quads o p)
+    pub pic1-body : (x : PicturePane) → k ≡ Pic1 → x ≡ pictureAt w → Wrote (pictureWritten b x quads (length o) p) (pictureOutput order b x quads o p)
         → BodyWrote k (whole (recordBy k w) quads units lines frames label)
     unfolding recordBy bodyAnswer bodyOutput
     pic1-body x e own h = rw (h .0, h .1, e, base, own) (refl, refl)
 
-    pub txt1-body : (x : TextBoxPane) → k ≡ Txt1 → x ≡ textBoxAt w → Wrote (textBoxWritten b x units lines label (length o) p) (textBoxOutput Little b x units lines label o p)
+    pub txt1-body : (x : TextBoxPane) → k ≡ Txt1 → x ≡ textBoxAt w → Wrote (textBoxWritten b x units lines label (length o) p) (textBoxOutput order b x units lines label o p)
         → BodyWrote k (whole (recordBy k w) quads units lines frames label)
     unfolding recordBy bodyAnswer bodyOutput
     txt1-body x e own h = rw (h .0, h .1, e, base, own) (refl, refl)
 
-    pub wnd1-body : (x : WindowPane) → k ≡ Wnd1 → x ≡ windowAt w → Wrote (windowWritten b quads frames (length o) p) (windowOutput Little b x quads frames o p)
+    pub wnd1-body : (x : WindowPane) → k ≡ Wnd1 → x ≡ windowAt w → Wrote (windowWritten b quads frames (length o) p) (windowOutput order b x quads frames o p)
         → BodyWrote k (whole (recordBy k w) quads units lines frames label)
     unfolding recordBy bodyAnswer bodyOutput
     wnd1-body x e own h = rw (h .0, h .1, e, base, own) (refl, refl)
 
-    pub ali1-body : (x : AlignmentPane) → k ≡ Ali1 → x ≡ alignmentAt w → Wrote (alignmentWritten b (length o) p) (alignmentOutput Little b x o p)
+    pub ali1-body : (x : AlignmentPane) → k ≡ Ali1 → x ≡ alignmentAt w → Wrote (alignmentWritten b (length o) p) (alignmentOutput order b x o p)
         → BodyWrote k (whole (recordBy k w) quads units lines frames label)
     unfolding recordBy bodyAnswer bodyOutput
     ali1-body x e own h = rw (h .0, h .1, e, base, own) (refl, refl)

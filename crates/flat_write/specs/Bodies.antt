@@ -1,7 +1,7 @@
 -- The body of a record as its kind's body call writes it.
 use Prim.Native.Nat.{ℕ}
 use mathlib.Core.List.{List}
-use Rattle.core.specs.declared.cursor.ByteOrder.the-variants.{Little}
+use Rattle.core.specs.declared.cursor.ByteOrder.{ByteOrder}
 use Rattle.core_checks.specs.declared.checks.Written.{Written}
 use Rattle.pane.specs.Body.{paneWritten, paneOutput}
 use Rattle.picture.specs.Body.{pictureWritten, pictureOutput}
@@ -20,9 +20,9 @@ bodyAnswer Txt1 x n body = textBoxWritten (x .pane .base) (x .pane .«text_box»
 bodyAnswer Wnd1 x n body = windowWritten (x .pane .base) (x .lists .quads) (x .lists .frames) n body
 bodyAnswer Ali1 x n body = alignmentWritten (x .pane .base) n body
 
-unfoldable pub bodyOutput : Kind → Whole → List ℕ → ℕ → List ℕ
-bodyOutput Pan1 x o body = paneOutput Little (x .pane .base) o body
-bodyOutput Pic1 x o body = pictureOutput Little (x .pane .base) (x .pane .picture) (x .lists .quads) o body
-bodyOutput Txt1 x o body = textBoxOutput Little (x .pane .base) (x .pane .«text_box») (x .lists .units) (x .lists .lines) (x .label) o body
-bodyOutput Wnd1 x o body = windowOutput Little (x .pane .base) (x .pane .window) (x .lists .quads) (x .lists .frames) o body
-bodyOutput Ali1 x o body = alignmentOutput Little (x .pane .base) (x .pane .alignment) o body
+unfoldable pub bodyOutput : ByteOrder → Kind → Whole → List ℕ → ℕ → List ℕ
+bodyOutput order Pan1 x o body = paneOutput order (x .pane .base) o body
+bodyOutput order Pic1 x o body = pictureOutput order (x .pane .base) (x .pane .picture) (x .lists .quads) o body
+bodyOutput order Txt1 x o body = textBoxOutput order (x .pane .base) (x .pane .«text_box») (x .lists .units) (x .lists .lines) (x .label) o body
+bodyOutput order Wnd1 x o body = windowOutput order (x .pane .base) (x .pane .window) (x .lists .quads) (x .lists .frames) o body
+bodyOutput order Ali1 x o body = alignmentOutput order (x .pane .base) (x .pane .alignment) o body

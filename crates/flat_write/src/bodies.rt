@@ -16,6 +16,7 @@ ghost use Rattle.flat_write.specs.Bodies.{bodyAnswer, bodyOutput};
 
 // The body of a record of a kind at a place.
 pub fn write(
+    order: ByteOrder,
     kind: Kind,
     words: &[u64],
     quads: &[u32],
@@ -28,10 +29,9 @@ pub fn write(
 ) -> Written
     requires { ⌜ 116 ≤ length (now words) ⌝ }
     ensures { λ a. ⌜ a ≡ bodyAnswer kind (whole (recordBy kind (now (words .entry))) (now (quads .entry)) (now (units .entry)) (now (lines .entry)) (now (frames .entry)) (now (label .entry))) (length (now (out .entry))) place ⌝ }
-    ensures { λ _. ⌜ now (out .exit) ≡ bodyOutput kind (whole (recordBy kind (now (words .entry))) (now (quads .entry)) (now (units .entry)) (now (lines .entry)) (now (frames .entry)) (now (label .entry))) (now (out .entry)) place ⌝ }
+    ensures { λ _. ⌜ now (out .exit) ≡ bodyOutput order kind (whole (recordBy kind (now (words .entry))) (now (quads .entry)) (now (units .entry)) (now (lines .entry)) (now (frames .entry)) (now (label .entry))) (now (out .entry)) place ⌝ }
 {
     let base = base::base_of(words);
-    let order = ByteOrder::Little;
     match kind {
         Kind::Pan1 => pane::body::write(order, base, out, place),
         Kind::Pic1 => {

@@ -1,4 +1,4 @@
-// The limits of a window's lists and of reserve0, written into a section and read back: one line of answer each.
+// The limits of a window's lists and of reserve0, written into a section and read back in both byte orders: one line of answer each.
 use core::cursor::ByteOrder;
 use core::error::Refusal;
 use core_checks::checks::Written;
@@ -60,13 +60,13 @@ fn print_read(answer: Section, frames: u8) {
 }
 
 // What the section at place 0 is read as, with lists that hold something else.
-fn read_back(data: &[u8]) {
+fn read_back(order: ByteOrder, data: &[u8]) {
     let mut quads = [7u32; 2040];
     let mut units = [7u16; 32767];
     let mut lines = [7u32; 510];
     let mut frames = [7u16; 510];
     let read = strip_read::read::read_section(
-        ByteOrder::Little,
+        order,
         data,
         0,
         &mut quads,
@@ -80,17 +80,17 @@ fn read_back(data: &[u8]) {
 
 // ---- writing
 
-fn answer_end(out: &[u8], end: usize) {
+fn answer_end(order: ByteOrder, out: &[u8], end: usize) {
     print(b" end");
     print_figure(end);
     if end <= out.len() {
-        read_back(&out[0..end]);
+        read_back(order, &out[0..end]);
     }
 }
 
-fn answer(out: &[u8], written: Written) {
+fn answer(order: ByteOrder, out: &[u8], written: Written) {
     match written {
-        Written::End(end) => answer_end(out, end),
+        Written::End(end) => answer_end(order, out, end),
         Written::Refused(why) => {
             print(b" ");
             print_refusal(why);
@@ -98,10 +98,10 @@ fn answer(out: &[u8], written: Written) {
     }
 }
 
-fn write_and_read(r: Record, quads: &[u32], frames: &[u16]) {
+fn write_and_read(order: ByteOrder, r: Record, quads: &[u32], frames: &[u16]) {
     let mut out = [9u8; 16384];
     let written = strip_write::write::write_section(
-        ByteOrder::Little,
+        order,
         r,
         quads,
         &frames[0..0],
@@ -111,28 +111,40 @@ fn write_and_read(r: Record, quads: &[u32], frames: &[u16]) {
         &mut out,
         0,
     );
-    answer(&out, written);
+    answer(order, &out, written);
 }
 
 // A line: what it is, and a section of this kind with so many numbers of quads and of frames.
-fn line(what: &[u8], kind: Kind, reserve0: u8, q: usize, f: usize)
+fn line(order: ByteOrder, what: &[u8], kind: Kind, reserve0: u8, q: usize, f: usize)
     requires { ⌜ (q ≤ 2048) × (f ≤ 512) ⌝ }
 {
     let quads = [1u32; 2048];
     let frames = [1u16; 512];
     print(what);
-    write_and_read(record_of(kind, reserve0), &quads[0..q], &frames[0..f]);
+    write_and_read(
+        order,
+        record_of(kind, reserve0),
+        &quads[0..q],
+        &frames[0..f],
+    );
     print(b"\n");
 }
 
+// The limits, in a byte order.
+fn lines(order: ByteOrder) {
+    line(order, b"255 frames:", Kind::Wnd1, 31, 0, 510);
+    line(order, b"256 frames:", Kind::Wnd1, 31, 0, 512);
+    line(order, b"255 quads in a window:", Kind::Wnd1, 31, 2040, 0);
+    line(order, b"256 quads in a window:", Kind::Wnd1, 31, 2048, 0);
+    line(order, b"255 quads in a picture:", Kind::Pic1, 31, 2040, 0);
+    line(order, b"256 quads in a picture:", Kind::Pic1, 31, 2048, 0);
+    line(order, b"9 numbers of quads:", Kind::Pic1, 31, 9, 0);
+    line(order, b"a list that the kind lacks:", Kind::Ali1, 31, 9, 3);
+    line(order, b"reserve0 32:", Kind::Wnd1, 32, 9, 512);
+}
+
 fn main() {
-    line(b"255 frames:", Kind::Wnd1, 31, 0, 510);
-    line(b"256 frames:", Kind::Wnd1, 31, 0, 512);
-    line(b"255 quads in a window:", Kind::Wnd1, 31, 2040, 0);
-    line(b"256 quads in a window:", Kind::Wnd1, 31, 2048, 0);
-    line(b"255 quads in a picture:", Kind::Pic1, 31, 2040, 0);
-    line(b"256 quads in a picture:", Kind::Pic1, 31, 2048, 0);
-    line(b"9 numbers of quads:", Kind::Pic1, 31, 9, 0);
-    line(b"a list that the kind lacks:", Kind::Ali1, 31, 9, 3);
-    line(b"reserve0 32:", Kind::Wnd1, 32, 9, 512);
+    lines(ByteOrder::Little);
+    print(b"big-endian:\n");
+    lines(ByteOrder::Big);
 }

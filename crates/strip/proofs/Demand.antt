@@ -229,6 +229,7 @@ module _ (order : ByteOrder) where
 -- the first part: "for every two such lists of writes, the kept lists are equal exactly when the two strips hold the same bytes".
 -- the second and the third: "either strip, read section by section from place 0, each read at the next place that the one before gave, gives its
 --   kept list, and then its end. No read is refused, and the next places are the ends that the accepted writes answered".
+-- `order`: both lists of writes and all reads are in the one byte order. It is any order: no law of this file goes by its cases.
 -- `Typed` is what the types of the code guarantee of a record and its lists; `strip::record::typed` is proved to show that they do.
 -- Ruled out, with the contracts: a reader that gives one blank pane; one that refuses all; a writer that touches nothing, or lays down the whole
 -- strip in its first call; an invented next place; an end before the length; a 16 while the section fits.

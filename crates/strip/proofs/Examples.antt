@@ -1,13 +1,13 @@
--- Worked examples of document 01's group M, by computation. Those on packed fields stand in `flags`, the one on a float in `ui2d`, those on windows in `window`.
+-- Worked examples of document 01's group M, and of Note 6 of document 02, by computation. Those on packed fields stand in `flags`, the one on a float in `ui2d`, those on windows in `window`.
 use mathlib.Core.Path.{_≡_, refl}
 use mathlib.Core.List.{List, [], _∷_, _++_}
 use Prim.Native.Nat.{ℕ, _+_}
 use lib.ListN.{replicate}
-use Rattle.core.specs.Bytes.{spelled, part, numberAt, padding}
+use Rattle.core.specs.Bytes.{le, spelled, bytesOf, part, numberAt, padding}
 use Rattle.core.specs.Taken.{start, advanced, stopIf, numberTaken, stringTaken, string24Taken, string8Taken, upToNul}
 use Rattle.core_checks.specs.Checks.{lengthChecked, bodyChecked, sectionChecked, bodyStart, sectionStart, listChecked, parsedOf, unlessRefused}
-use Rattle.core.specs.declared.error.Refusal.the-variants.{UnexpectedEof}
-use Rattle.core.specs.declared.cursor.ByteOrder.the-variants.{Little}
+use Rattle.core.specs.declared.error.Refusal.the-variants.{UnexpectedEof, SectionSize}
+use Rattle.core.specs.declared.cursor.ByteOrder.the-variants.{Little, Big}
 use Rattle.core_checks.specs.declared.checks.Parsed.the-variants as Parseds
 use Rattle.utf8.specs.Utf8.{walk, wellFormed}
 use Rattle.ui2d.specs.Parts.{vector2Taken, vector3Taken}
@@ -61,3 +61,18 @@ pub record Lines : Type 0 where
 pub three-lines : Lines
 unfolding start advanced letterBytes kindOf readSection readStart sectionStart lengthChecked sectionChecked listChecked stopIf orRefused readAt headerTaken sizeBad byKind readBody bodyRead alignmentRead parsedOf unlessRefused finished refusedWith endedWith paneTaken string24Taken string8Taken vector2Taken vector3Taken alignmentTaken numberTaken stringTaken upToNul part numberAt spelled textsChecked nameIll wellFormed walk
 three-lines = record { empty = refl; bare = refl; whole = refl }
+
+abbrev float : List ℕ
+float = 0x7F ∷ 0x80 ∷ 0x00 ∷ 0x01 ∷ []
+
+-- the other byte order: sizes and floats the other way round, letters as they are
+pub record Turned : Type 0 where
+  pub bare : readSection Big (letterBytes Ali1 ++ (0 ∷ 0 ∷ 0 ∷ 8 ∷ [])) 0 full .answer ≡ Sections.Refused (UnexpectedEof 8 1)
+  pub beyond : readSection Big (letterBytes Ali1 ++ (8 ∷ 0 ∷ 0 ∷ 0 ∷ [])) 0 full .answer ≡ Sections.Refused (SectionSize 4 134217728)
+  pub whole : readSection Big (letterBytes Ali1 ++ (0 ∷ 0 ∷ 0 ∷ 96 ∷ zeros 88)) 0 full .answer ≡ Sections.Pane 96 96
+  pub number : numberAt Big 4 float 0 ≡ 0x7F800001
+  pub back : bytesOf Big 4 (numberAt Big 4 float 0) ≡ float
+
+pub turned : Turned
+unfolding start advanced letterBytes kindOf readSection readStart sectionStart lengthChecked sectionChecked listChecked stopIf orRefused readAt headerTaken sizeBad byKind readBody bodyRead alignmentRead parsedOf unlessRefused finished refusedWith endedWith paneTaken string24Taken string8Taken vector2Taken vector3Taken alignmentTaken numberTaken stringTaken upToNul part numberAt spelled bytesOf le textsChecked nameIll wellFormed walk
+turned = record { bare = refl; beyond = refl; whole = refl; number = refl; back = refl }

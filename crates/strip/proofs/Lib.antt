@@ -3,4 +3,5 @@ pub mod BackKinds
 pub mod Back
 pub mod Same
 pub mod Demand
+pub mod Orders
 pub mod Examples

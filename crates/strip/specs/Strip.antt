@@ -39,6 +39,20 @@ runFrom order (w ∷ ws) o p = step (writeAnswer w (length o) p) w (λ q. runFro
 abbrev pub run : ByteOrder → List Whole → List ℕ → Run
 run order ws o = runFrom order ws o 0
 
+-- what each of them answers, refusals included; the next one is made at the place of `nextPlace`
+abbrev pub nextPlace : Written → ℕ → ℕ
+nextPlace (Writtens.End e) p = e
+nextPlace (Writtens.Refused why) p = p
+
+unfoldable pub answersFrom : ByteOrder → List Whole → List ℕ → ℕ → List Written
+answersFrom order [] o p = []
+answersFrom order (w ∷ ws) o p =
+    let a : Written = writeAnswer w (length o) p in
+    a ∷ answersFrom order ws (writeOutput order w o p) (nextPlace a p)
+
+abbrev pub answers : ByteOrder → List Whole → List ℕ → List Written
+answers order ws o = answersFrom order ws o 0
+
 -- the strip: the output up to the last end that a write answered, empty where none was accepted
 abbrev pub strip : Run → List ℕ
 strip t = take (t .place) (t .out)

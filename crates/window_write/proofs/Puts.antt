@@ -7,11 +7,10 @@ use native.Mathlib.Numerals.{add-one}
 use lib.Dec.{ltb}
 use lib.ListN.{length, take, drop, getD, length-drop, take-append-drop}
 use lib.Seq.{drop-cons, length-take-le}
-use Rattle.core.specs.Bytes.{bytesOf, bytesOfAll, le}
+use Rattle.core.specs.Bytes.{ordered, bytesOf, bytesOfAll, le}
 use Rattle.core.specs.Taken.{stopIf}
 use Rattle.core.specs.declared.error.Refusal.the-variants.{BadFlip}
 use Rattle.core.specs.declared.cursor.ByteOrder.{ByteOrder}
-use Rattle.core.specs.declared.cursor.ByteOrder.the-variants.{Little}
 use Rattle.core.specs.declared.cursor.Place.{Place}
 use Rattle.core_write.proofs.Puts.{take-more, all-append, all-one}
 use Rattle.window_write.specs.Write.{flipsChecked, frameOffsets, encodeFrame, encodeFrames}
@@ -67,7 +66,7 @@ offsets-more order first i v e =
 -- a flip is written as a byte
 pub byte-low : (order : ByteOrder) (v : ℕ) → bytesOf order 1 (v % 256) ≡ bytesOf order 1 v
 unfolding bytesOf le
-byte-low Little v = ap (λ (k : ℕ). k ∷ []) (omega arith)
+byte-low order v = ap (λ (k : ℕ). ordered order (k ∷ [])) (omega arith)
 
 module _ (order : ByteOrder) where
   frames-append : (a b : List ℕ) → length a % 2 ≡ 0 → encodeFrames order (a ++ b) ≡ encodeFrames order a ++ encodeFrames order b

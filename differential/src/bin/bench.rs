@@ -4,10 +4,11 @@
 //! 100 calls of one contender and times nothing, for counting instructions.
 use bidlomeqa::calls::{self, ReadLists};
 use bidlomeqa::layout::*;
-use bidlomeqa::{Buffer, Record, Section};
+use bidlomeqa::{Buffer, ByteOrder, Record, Section};
 use differential::compare::Comparison;
 use differential::fault::Fault;
 use differential::generate::{bodies, records};
+use differential::mirror;
 use differential::oracle;
 use differential::panes::AnyPane;
 use differential::random::Random;
@@ -55,21 +56,23 @@ fn page(r: &mut Random, count: usize, kind: Option<u64>) -> Page {
         bytes.extend_from_slice(&section[bytes.len()..]);
     }
     let panes = wholes.iter().map(AnyPane::of).collect();
-    let records = bidlomeqa::read_strip(&bytes).expect("a page that nnbfl wrote is read");
+    let records = bidlomeqa::read_strip(ByteOrder::Little, &bytes).expect("a page that nnbfl wrote is read");
     Page { bytes, panes, wholes, records }
 }
 
 // The page is read and written alike by both before it is timed.
 fn check(page: &Page) {
-    let mut c = Comparison::new(false, Fault::none());
+    let mut c = Comparison::new(LITTLE, false, Fault::none());
     let mut place = 0;
     for w in &page.wholes {
         place = c.section(&page.bytes, place).1[1] as usize;
         assert!(c.last().normal() == w.normal());
     }
     let mut out = vec![0; page.bytes.len()];
-    write_flat(page, &mut out);
+    write_flat(LITTLE, page, &mut out);
     assert!(out == page.bytes && write_nnbfl(page, false) == page.bytes && c.tally.differences == 0);
+    write_flat(BIG, page, &mut out);
+    assert!(mirror::strip(&page.bytes) == Some(out));
 }
 
 fn read_nnbfl(bytes: &[u8]) {
@@ -97,12 +100,12 @@ struct Lent {
     words: [u64; RECORD_WORDS],
 }
 
-fn read_flat(bytes: &[u8], lent: &mut Lent) {
+fn read_flat(order: u64, bytes: &[u8], lent: &mut Lent) {
     let mut place = 0;
     let mut answer = [0; ANSWER_WORDS];
     let Lent { quads, units, lines, frames, words } = lent;
     let mut lists = ReadLists { quads, units, lines, frames };
-    while calls::read_section(bytes, place, &mut lists, words, &mut answer) == PANE {
+    while calls::read_section(order, bytes, place, &mut lists, words, &mut answer) == PANE {
         black_box(&words);
         place = answer[1] as usize;
     }
@@ -111,7 +114,7 @@ fn read_flat(bytes: &[u8], lent: &mut Lent) {
 
 fn read_views(bytes: &[u8], buffer: &mut Buffer) {
     let mut place = 0;
-    while let Ok(Section::Pane { view, next, .. }) = buffer.read_section(bytes, place) {
+    while let Ok(Section::Pane { view, next, .. }) = buffer.read_section(ByteOrder::Little, bytes, place) {
         black_box((view.base(), view.quads(), view.text(), view.label(), view.frames()));
         place = next;
     }
@@ -119,7 +122,7 @@ fn read_views(bytes: &[u8], buffer: &mut Buffer) {
 
 fn read_records(bytes: &[u8], buffer: &mut Buffer) {
     let mut place = 0;
-    while let Ok(Section::Pane { view, next, .. }) = buffer.read_section(bytes, place) {
+    while let Ok(Section::Pane { view, next, .. }) = buffer.read_section(ByteOrder::Little, bytes, place) {
         black_box(view.record());
         place = next;
     }
@@ -144,11 +147,11 @@ fn write_nnbfl(page: &Page, forget: bool) -> Vec<u8> {
     writer.buffer
 }
 
-fn write_flat(page: &Page, out: &mut [u8]) {
+fn write_flat(order: u64, page: &Page, out: &mut [u8]) {
     let mut answer = [0; ANSWER_WORDS];
     let mut place = 0;
     for w in &page.wholes {
-        assert_eq!(calls::write_section(&w.words, w.lists(), out, place, &mut answer), WRITTEN);
+        assert_eq!(calls::write_section(order, &w.words, w.lists(), out, place, &mut answer), WRITTEN);
         place = answer[0] as usize;
     }
 }
@@ -156,7 +159,7 @@ fn write_flat(page: &Page, out: &mut [u8]) {
 fn write_records(page: &Page, buffer: &mut Buffer, out: &mut [u8]) {
     let mut place = 0;
     for record in &page.records {
-        place = buffer.write_section(record, out, place).unwrap();
+        place = buffer.write_section(ByteOrder::Little, record, out, place).unwrap();
     }
 }
 
@@ -183,19 +186,28 @@ fn least(seconds: f64, mut call: impl FnMut()) -> f64 {
 type Contender<'a> = (&'a str, Box<dyn FnMut() + 'a>);
 
 // The first of reading and the first of writing are nnbfl's, which the others are compared with.
-fn contenders<'a>(page: &'a Page, lent: &'a mut Lent, buffers: &'a mut [Buffer; 3], outs: &'a mut [Vec<u8>; 3]) -> Vec<Contender<'a>> {
+fn contenders<'a>(
+    page: &'a Page,
+    big: &'a [u8],
+    lents: &'a mut [Lent; 2],
+    buffers: &'a mut [Buffer; 3],
+    outs: &'a mut [Vec<u8>; 4],
+) -> Vec<Contender<'a>> {
     let bytes = &page.bytes;
     let [views, reads, writes] = buffers;
-    let [copy, flat, typed] = outs;
+    let [copy, flat, flat_big, typed] = outs;
+    let [lent, lent_big] = lents;
     vec![
         ("memcpy", Box::new(move || copy.copy_from_slice(black_box(bytes)))),
         ("read nnbfl", Box::new(move || read_nnbfl(black_box(bytes)))),
-        ("read library", Box::new(move || read_flat(black_box(bytes), lent))),
+        ("read library", Box::new(move || read_flat(LITTLE, black_box(bytes), lent))),
+        ("read library, big", Box::new(move || read_flat(BIG, black_box(big), lent_big))),
         ("read crate, views", Box::new(move || read_views(black_box(bytes), views))),
         ("read crate, records", Box::new(move || read_records(black_box(bytes), reads))),
         ("write nnbfl", Box::new(move || drop(black_box(write_nnbfl(black_box(page), false))))),
         ("write nnbfl, forgetful", Box::new(move || drop(black_box(write_nnbfl(black_box(page), true))))),
-        ("write library", Box::new(move || write_flat(black_box(page), flat))),
+        ("write library", Box::new(move || write_flat(LITTLE, black_box(page), flat))),
+        ("write library, big", Box::new(move || write_flat(BIG, black_box(page), flat_big))),
         ("write crate, records", Box::new(move || write_records(black_box(page), writes, typed))),
     ]
 }
@@ -206,10 +218,11 @@ fn lent() -> Lent {
 
 fn measure(page: Page, seconds: f64, only: Option<&str>) {
     let count = page.wholes.len();
-    let (mut lent, length) = (lent(), page.bytes.len());
-    let (mut buffers, mut outs) = ([Buffer::new(), Buffer::new(), Buffer::new()], [0; 3].map(|_| vec![0; length]));
+    let (mut lents, length) = ([lent(), lent()], page.bytes.len());
+    let (mut buffers, mut outs) = ([Buffer::new(), Buffer::new(), Buffer::new()], [0; 4].map(|_| vec![0; length]));
+    let big = mirror::strip(&page.bytes).expect("no two parts that nnbfl writes share a byte");
     if let Some(name) = only {
-        for (contender, mut call) in contenders(&page, &mut lent, &mut buffers, &mut outs) {
+        for (contender, mut call) in contenders(&page, &big, &mut lents, &mut buffers, &mut outs) {
             if contender == name {
                 (0..100).for_each(|_| call());
             }
@@ -220,7 +233,7 @@ fn measure(page: Page, seconds: f64, only: Option<&str>) {
     println!("\n{count} panes, {length} bytes, {:.0} bytes a pane", length as f64 / count as f64);
     println!("  {:22} {:>9} {:>10} {:>14}", "", "ns a pane", "MB/s", "nnbfl's time /");
     let mut nnbfl = f64::NAN;
-    for (name, call) in contenders(&page, &mut lent, &mut buffers, &mut outs) {
+    for (name, call) in contenders(&page, &big, &mut lents, &mut buffers, &mut outs) {
         let ns = least(seconds, call);
         if name.ends_with("nnbfl") {
             nnbfl = ns;

@@ -3,6 +3,7 @@ use super::bodies::{self, put16, put32};
 use crate::compare::Comparison;
 use crate::random::Random;
 use crate::whole::*;
+use bidlomeqa::layout::BIG;
 
 /// Bytes at the bounds of Table 3-7.
 pub const BYTES: [u8; 25] = [
@@ -23,6 +24,9 @@ pub fn utf8(c: &mut Comparison, r: &mut Random) {
     put32(&mut pane, 14, 0);
     let mut text = bodies::template(r, TXT1, 11);
     put32(&mut text, 11 + 120, 190);
+    if c.order == BIG {
+        put32(&mut text, 11 + 152, 0); // a line table would share bytes with the label, which then has no mirror
+    }
     text.resize(11 + 200, 0x42);
     text[11 + 199] = 0;
     for a in BYTES {

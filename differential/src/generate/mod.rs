@@ -8,6 +8,7 @@ pub mod strips;
 
 use crate::compare::Comparison;
 use crate::random::Random;
+use bidlomeqa::layout::BIG;
 
 /// A generator of cases.
 pub type Generator = fn(&mut Comparison, &mut Random);
@@ -48,6 +49,13 @@ pub const RANDOM: [(&str, Generator); 6] = [
     ("label and caption", strips::parts),
 ];
 
+/// Those of a big-endian run alone.
+pub const BIG_ENDIAN: [(&str, Generator); 1] = [("strips: random pages", strips::page)];
+
+fn random(order: u64) -> impl Iterator<Item = &'static (&'static str, Generator)> + Clone {
+    RANDOM.iter().chain(BIG_ENDIAN.iter().filter(move |_| order == BIG))
+}
+
 /// Runs everything, at least `cases` of them.
 pub fn run(c: &mut Comparison, seed: u64, cases: u64) {
     for (i, (name, generator)) in SYSTEMATIC.iter().enumerate() {
@@ -55,7 +63,7 @@ pub fn run(c: &mut Comparison, seed: u64, cases: u64) {
         generator(c, &mut Random(seed ^ (i as u64) << 32));
     }
     let mut r = Random(seed);
-    for (name, generator) in RANDOM.iter().cycle() {
+    for (name, generator) in random(c.order).cycle() {
         if c.tally.cases >= cases {
             break;
         }
@@ -69,7 +77,7 @@ pub fn run(c: &mut Comparison, seed: u64, cases: u64) {
 /// A short run with some of everything.
 pub fn sample(c: &mut Comparison, seed: u64) {
     let mut r = Random(seed);
-    for (name, generator) in RANDOM {
+    for (name, generator) in random(c.order) {
         c.generator = name;
         for _ in 0..2000 {
             generator(c, &mut r);

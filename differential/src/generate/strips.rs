@@ -44,16 +44,16 @@ fn strip(c: &mut Comparison, writes: &[Whole], length: usize) {
             kept.push(w);
         }
     }
-    let strip = c.model(place);
+    let strip = c.written(place);
     let mut at = 0;
     for w in kept {
-        let outcome = c.section(&strip, at);
+        let outcome = c.section_of(&strip, at);
         let back = outcome.0 == PANE && c.last().normal() == w.normal();
-        c.claim("comes back", w.kind(), back, || format!("section at {at} of {} bytes: {w:?}", strip.len()));
+        c.claim("comes back", w.kind(), back, || format!("section at {at} of {place} bytes: {w:?}"));
         at = outcome.1[1] as usize;
     }
-    let end = c.section(&strip, at);
-    c.claim("ends", 5, end.0 == END, || format!("{at} of {}", strip.len()));
+    let end = c.section_of(&strip, at);
+    c.claim("ends", 5, end.0 == END, || format!("{at} of {place}"));
 }
 
 // With few numbers in its lists.
@@ -115,6 +115,33 @@ pub fn sections(c: &mut Comparison, r: &mut Random) {
         data.truncate(place + r.below(data.len() - place + 1));
     }
     c.section(&data, place);
+}
+
+// A section of another kind, with a body of any bytes.
+fn other(r: &mut Random) -> Vec<u8> {
+    let mut section = vec![0; 8 + 4 * r.below(12)];
+    r.fill(&mut section[8..]);
+    section[..4].copy_from_slice(r.pick(&[b"grp1", b"usd1", b"pas1", b"pae1", b"1nap"]));
+    let size = section.len() as u32;
+    put32(&mut section, 4, size);
+    section
+}
+
+/// A page of sections of all kinds and of others, sometimes cut, read from its beginning as far as it goes.
+pub fn page(c: &mut Comparison, r: &mut Random) {
+    let mut page = Vec::new();
+    for _ in 0..1 + r.below(8) {
+        let (kind, after) = (r.below(7) as u64, r.below(30));
+        page.extend(if kind < 5 { bodies::section(kind, bodies::body(r, kind, 8, after)) } else { other(r) });
+    }
+    if r.once_in(4) {
+        page.truncate(r.below(page.len() + 1));
+    }
+    let Some(strip) = c.strip(page) else { return };
+    let mut at = 0;
+    while let (PANE, [_, next, _]) | (PASSED, [next, _, _]) = c.section_of(&strip, at) {
+        at = next as usize;
+    }
 }
 
 /// Label and caption of records whose label stands within the strip, at its end and beyond.

@@ -1,4 +1,4 @@
-use Rattle.exports_read.proofs.Reading.{body-short, body-bad, body-read}
+use Rattle.exports_read.proofs.Reading.{body-other, body-short, body-bad, body-read}
 use borrow.Author.Needs.{needs}
 use Rattle.exports_read.proofs.reads.read_body.Statement.{statement}
 use Rattle.exports_read.proofs.reads.read_body.Tie as tie
@@ -9,17 +9,26 @@ use Rattle.exports_answers.proofs.answers.short_record.Reads as short-record-re
 use Rattle.exports_read.proofs.bodies.parse_kind.Reads as parse-kind-reads
 use Rattle.flat_records.proofs.records.kind_of.Reads as kind-of-reads
 
+bad-order-requires : tie.Need-bad-order-requires
+bad-order-requires c κs = search needs
+
+returns : tie.Need-returns
+returns c = body-other _ _ _ _ _ _ _ (c .before .if1 .taken) (rw (c .bad-order .ensures))
+
+order-of-requires : tie.Need-order-of-requires
+order-of-requires c κs = search needs
+
 short-record-requires : tie.Need-short-record-requires
 short-record-requires c κs = search needs
 
-returns : tie.Need-returns
-returns c = body-short _ _ _ _ _ _ (c .before .if1 .taken) (rw (c .short-record .ensures))
+returns-2 : tie.Need-returns-2
+returns-2 c = body-short _ _ _ _ _ _ _ (c .before .before .before .if1 .left) (c .before .if2 .taken) (rw (c .short-record .ensures))
 
 bad-word-requires : tie.Need-bad-word-requires
 bad-word-requires c κs = search needs
 
-returns-2 : tie.Need-returns-2
-returns-2 c = body-bad _ _ _ _ _ _ (c .before .before .if1 .left) (c .before .if2 .taken) (rw (c .bad-word .ensures))
+returns-3 : tie.Need-returns-3
+returns-3 c = body-bad _ _ _ _ _ _ _ (c .before .before .before .before .if1 .left) (c .before .before .if2 .left) (c .before .if3 .taken) (rw (c .bad-word .ensures))
 
 kind-of-requires : tie.Need-kind-of-requires
 kind-of-requires c κs = search needs
@@ -42,17 +51,20 @@ same-length-4 c = search needs
 same-length-5 : tie.Need-same-length-5
 same-length-5 c = search needs
 
-returns-3 : tie.Need-returns-3
-returns-3 c = body-read _ _ _ _ _ _ _ (c .before .before .before .before .before .before .before .before .before .before .before .before .before .before .before .before .before .before .if1 .left) (c .before .before .before .before .before .before .before .before .before .before .before .before .before .before .before .before .before .if2 .left) (c .before .before .before .before .before .before .before .before .before .before .before .before .before .before .before .before .kind-of .ensures) (c .before .before .before .before .before .before .before .before .before .before .parse-kind .ensures)
+returns-4 : tie.Need-returns-4
+returns-4 c = body-read _ _ _ _ _ _ _ _ _ (c .before .before .before .before .before .before .before .before .before .before .before .before .before .before .before .before .before .before .before .before .if1 .left) (c .before .before .before .before .before .before .before .before .before .before .before .before .before .before .before .before .before .before .before .order-of .ensures) (c .before .before .before .before .before .before .before .before .before .before .before .before .before .before .before .before .before .before .if2 .left) (c .before .before .before .before .before .before .before .before .before .before .before .before .before .before .before .before .before .if3 .left) (c .before .before .before .before .before .before .before .before .before .before .before .before .before .before .before .before .kind-of .ensures) (c .before .before .before .before .before .before .before .before .before .before .parse-kind .ensures)
 
 pub read-body-spec : {M : Type 1} → statement M
 read-body-spec =
     tie.close
     (tie.spec
-    short-record-requires
+    bad-order-requires
     returns
-    bad-word-requires
+    order-of-requires
+    short-record-requires
     returns-2
+    bad-word-requires
+    returns-3
     kind-of-requires
     parse-kind-requires
     same-length
@@ -60,4 +72,4 @@ read-body-spec =
     same-length-3
     same-length-4
     same-length-5
-    returns-3)
+    returns-4)

@@ -47,7 +47,7 @@ same-length c = search needs
 
 returns : tie.Need-returns
 unfolding bodyLists
-returns c = read-as _ _ (c .before .before .before .before .enum-told .given .1) _ _ _ _ _ _ _ _ _ refl (c .before .before .read-pan1 .ensures _)
+returns c = read-as _ _ _ (c .before .before .before .before .enum-told .given .1) _ _ _ _ _ _ _ _ _ refl (c .before .before .read-pan1 .ensures _)
 
 same-length-2 : tie.Need-same-length-2
 same-length-2 c = search needs
@@ -57,7 +57,7 @@ same-length-3 c = search needs
 
 returns-2 : tie.Need-returns-2
 unfolding bodyLists
-returns-2 c = read-as _ _ (c .before .before .before .before .before .before .before .enum-told2 .given .1) _ _ _ _ _ _ _ _ _ (rw (c .before .before .before .before .read-pic1 .ensures .1)) (c .before .before .before .before .read-pic1 .ensures .0 _)
+returns-2 c = read-as _ _ _ (c .before .before .before .before .before .before .before .enum-told2 .given .1) _ _ _ _ _ _ _ _ _ (rw (c .before .before .before .before .read-pic1 .ensures .1)) (c .before .before .before .before .read-pic1 .ensures .0 _)
 
 same-length-4 : tie.Need-same-length-4
 same-length-4 c = search needs
@@ -70,7 +70,7 @@ same-length-6 c = search needs
 
 returns-3 : tie.Need-returns-3
 unfolding bodyLists
-returns-3 c = read-as _ _ (c .before .before .before .before .before .before .before .before .before .before .enum-told3 .given .1) _ _ _ _ _ _ _ _ _ (rw (c .before .before .before .before .before .before .read-txt1 .ensures .1 .0, c .before .before .before .before .before .before .read-txt1 .ensures .1 .1)) (c .before .before .before .before .before .before .read-txt1 .ensures .0 _)
+returns-3 c = read-as _ _ _ (c .before .before .before .before .before .before .before .before .before .before .enum-told3 .given .1) _ _ _ _ _ _ _ _ _ (rw (c .before .before .before .before .before .before .read-txt1 .ensures .1 .0, c .before .before .before .before .before .before .read-txt1 .ensures .1 .1)) (c .before .before .before .before .before .before .read-txt1 .ensures .0 _)
 
 same-length-7 : tie.Need-same-length-7
 same-length-7 c = search needs
@@ -83,14 +83,14 @@ same-length-9 c = search needs
 
 returns-4 : tie.Need-returns-4
 unfolding bodyLists
-returns-4 c = read-as _ _ (c .before .before .before .before .before .before .before .before .before .before .enum-told4 .given .1) _ _ _ _ _ _ _ _ _ (rw (c .before .before .before .before .before .before .read-wnd1 .ensures .1 .0, c .before .before .before .before .before .before .read-wnd1 .ensures .1 .1)) (c .before .before .before .before .before .before .read-wnd1 .ensures .0 _)
+returns-4 c = read-as _ _ _ (c .before .before .before .before .before .before .before .before .before .before .enum-told4 .given .1) _ _ _ _ _ _ _ _ _ (rw (c .before .before .before .before .before .before .read-wnd1 .ensures .1 .0, c .before .before .before .before .before .before .read-wnd1 .ensures .1 .1)) (c .before .before .before .before .before .before .read-wnd1 .ensures .0 _)
 
 same-length-10 : tie.Need-same-length-10
 same-length-10 c = search needs
 
 returns-5 : tie.Need-returns-5
 unfolding bodyLists
-returns-5 c = read-as _ _ (c .before .before .before .before .enum-told5 .given .1) _ _ _ _ _ _ _ _ _ refl (c .before .before .read-ali1 .ensures _)
+returns-5 c = read-as _ _ _ (c .before .before .before .before .enum-told5 .given .1) _ _ _ _ _ _ _ _ _ refl (c .before .before .read-ali1 .ensures _)
 
 pub read-kind-spec : {M : Type 1} → statement M
 read-kind-spec =

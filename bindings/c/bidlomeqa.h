@@ -211,10 +211,12 @@ extern "C" {
 /* How many words a record has. */
 #define BIDLOMEQA_RECORD_WORDS 116
 
-/* ---- the byte order of a call */
+/* ---- the byte order of a call: how a number of two or four bytes stands in the bytes */
 
+/* The lowest byte first. */
 #define BIDLOMEQA_LITTLE 0u
 
+/* The highest byte first. */
 #define BIDLOMEQA_BIG 1u
 
 /* ---- what a call returns, and what it puts into the answer's words */
@@ -259,7 +261,13 @@ extern "C" {
 #define BIDLOMEQA_LINES_NEED 510
 #define BIDLOMEQA_FRAMES_NEED 510
 
-/* `order` is LITTLE or BIG: the byte order of numbers of two or four bytes. Letters, names, labels, colours and single bytes have none. */
+/*
+ * `order` is LITTLE or BIG: how numbers of two or four bytes stand in `data` and `out`. Letters, names, labels, colours and single bytes have no order. It
+ * is never guessed from the bytes: a .bflyt file tells it by the mark in its header, which is no part of a strip (bytes FF FE little, FE FF big). The words
+ * of a record and the four lists are plain numbers of the machine, in either order.
+ *
+ * SHORT_ANSWER is looked for first, then BAD_ORDER, then SHORT_RECORD, then BAD_WORD, and then what docs/REFUSALS.md lists.
+ */
 
 /* Reads the section at `place`: END, PASSED, PANE, REFUSED, SHORT_RECORD, BAD_ORDER or SHORT_ANSWER. */
 uint64_t bidlomeqa_read_section(

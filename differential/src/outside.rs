@@ -47,12 +47,17 @@ fn answered(code: u64, [a, b, c]: [u64; 3]) -> String {
 }
 
 fn library_reads(kind: u64, data: &[u8], place: usize) -> String {
+    let (code, answer, _) = read_body(LITTLE, kind, data, place);
+    answered(code, answer)
+}
+
+fn read_body(order: u64, kind: u64, data: &[u8], place: usize) -> (u64, [u64; ANSWER_WORDS], [u64; RECORD_WORDS]) {
     let (mut quads, mut units) = (vec![0; FULL[0]], vec![0; FULL[1]]);
     let (mut lines, mut frames) = (vec![0; FULL[2]], vec![0; FULL[3]]);
     let mut lists = ReadLists { quads: &mut quads, units: &mut units, lines: &mut lines, frames: &mut frames };
-    let mut answer = [0; ANSWER_WORDS];
-    let code = calls::read_body(LITTLE, kind, data, place, &mut lists, &mut [0; RECORD_WORDS], &mut answer);
-    answered(code, answer)
+    let (mut answer, mut words) = ([0; ANSWER_WORDS], [0; RECORD_WORDS]);
+    let code = calls::read_body(order, kind, data, place, &mut lists, &mut words, &mut answer);
+    (code, answer, words)
 }
 
 fn nothing(_: &AnyPane) -> String {
@@ -287,9 +292,25 @@ fn shapes() -> Vec<Row> {
     ]
 }
 
+fn big_endian() -> Row {
+    let mut data = [0; 96];
+    data[8 + 79] = 1;
+    let direction = |pane: &AnyPane| if let AnyPane::Ali1(p) = pane { format!(" {}", p.direction) } else { unreachable!() };
+    let (code, [end, ..], words) = read_body(BIG, ALI1, &data, 8);
+    assert_eq!(code, PANE);
+    let library = format!("read {}, ends at {end}", words[DIRECTION]);
+    row(
+        "big-endian: a direction of 00 00 00 01",
+        nnbfl_reads(ALI1, &data, 8, direction),
+        library,
+        ["read 16777216, ends at 96", "read 1, ends at 96"],
+    )
+}
+
 /// Every difference that can be run.
 pub fn rows() -> Vec<Row> {
     let mut rows = reading();
+    rows.push(big_endian());
     rows.extend(names());
     rows.push(reserved());
     rows.extend(lists());

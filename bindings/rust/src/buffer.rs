@@ -7,9 +7,13 @@ use crate::view::View;
 use crate::words::Words;
 
 /// In which order the bytes of a number of two or four bytes stand. Letters, names, labels, colours and single bytes have none.
-#[derive(Debug, Clone, Copy, PartialEq, Eq)]
+///
+/// It is never guessed from the bytes: a .bflyt file tells it by the mark in its header, which is no part of a strip (bytes FF FE little, FE FF big).
+#[derive(Debug, Clone, Copy, PartialEq, Eq, Hash)]
 pub enum ByteOrder {
+    /// The lowest byte first.
     Little,
+    /// The highest byte first.
     Big,
 }
 

@@ -26,5 +26,5 @@ pub use buffer::{Body, Buffer, ByteOrder, Caption, Section};
 pub use flags::*;
 pub use record::*;
 pub use refusal::Refusal;
-pub use strip::{read_page, read_strip, write_page, write_strip, Piece, Refused};
+pub use strip::{read_page, read_strip, write_page, write_strip, NotWritten, Piece, Refused};
 pub use view::View;

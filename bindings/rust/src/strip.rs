@@ -19,11 +19,46 @@ impl std::fmt::Display for Refused {
 
 impl std::error::Error for Refused {}
 
-/// A section of a page: a pane, or one of another kind, header and all, as it stands and so in the byte order that it was read in.
+/// A section of a page.
 #[derive(Debug, Clone, PartialEq)]
 pub enum Piece {
     Pane(Box<Record>),
-    Other(Vec<u8>),
+    /// One of another kind, header and all, as it stands, and the byte order of its numbers. Which of its bytes are numbers is not known here.
+    Other {
+        order: ByteOrder,
+        section: Vec<u8>,
+    },
+}
+
+/// Why a page was not written.
+#[derive(Debug, Clone, Copy, PartialEq, Eq)]
+pub enum NotWritten {
+    /// A pane was refused.
+    Refused(Refused),
+    /// The section of another kind that would stand at `place` is of the other byte order, and cannot be turned.
+    OtherOrder { place: usize, order: ByteOrder },
+}
+
+impl std::fmt::Display for NotWritten {
+    fn fmt(&self, f: &mut std::fmt::Formatter) -> std::fmt::Result {
+        match self {
+            Self::Refused(refused) => refused.fmt(f),
+            Self::OtherOrder { place, order: ByteOrder::Little } => {
+                write!(f, "section at {place}: of another kind and little-endian, so it cannot be written into a big-endian page")
+            }
+            Self::OtherOrder { place, order: ByteOrder::Big } => {
+                write!(f, "section at {place}: of another kind and big-endian, so it cannot be written into a little-endian page")
+            }
+        }
+    }
+}
+
+impl std::error::Error for NotWritten {}
+
+impl From<Refused> for NotWritten {
+    fn from(refused: Refused) -> Self {
+        Self::Refused(refused)
+    }
 }
 
 /// Reads every section of a page, so that [`write_page`] writes back those of other kinds too.
@@ -34,7 +69,7 @@ pub fn read_page(order: ByteOrder, strip: &[u8]) -> Result<Vec<Piece>, Refused> 
     loop {
         let (piece, next) = match buffer.read_section(order, strip, place) {
             Ok(Section::End) => return Ok(pieces),
-            Ok(Section::Passed { next }) => (Piece::Other(strip[place..next].to_vec()), next),
+            Ok(Section::Passed { next }) => (Piece::Other { order, section: strip[place..next].to_vec() }, next),
             Ok(Section::Pane { view, next, .. }) => (Piece::Pane(Box::new(view.record())), next),
             Err(refusal) => return Err(Refused { place, refusal }),
         };
@@ -43,14 +78,15 @@ pub fn read_page(order: ByteOrder, strip: &[u8]) -> Result<Vec<Piece>, Refused> 
     }
 }
 
-/// Writes the sections of a page, one after another. One of another kind is copied, if its bytes read on to their end in the byte order; else it is refused as
-/// that read is. Bytes of the other order that read on all the same are not noticed: a size can be the same either way round, as 65,792 is.
-pub fn write_page(order: ByteOrder, pieces: &[Piece]) -> Result<Vec<u8>, Refused> {
+/// Writes the sections of a page, one after another. Panes may have been read in either byte order. A section of another kind is copied as it stands, so one
+/// of the other byte order is not written.
+pub fn write_page(order: ByteOrder, pieces: &[Piece]) -> Result<Vec<u8>, NotWritten> {
     let mut out = Output::new(order, pieces.len());
     for piece in pieces {
         match piece {
             Piece::Pane(record) => out.write(record)?,
-            Piece::Other(section) => out.copy(section)?,
+            Piece::Other { order: own, .. } if *own != order => return Err(NotWritten::OtherOrder { place: out.place, order: *own }),
+            Piece::Other { section, .. } => out.copy(section),
         }
     }
     Ok(out.finish())
@@ -99,22 +135,13 @@ impl Output {
         Ok(())
     }
 
-    // Sections that are in the byte order read on to their end, since none passes it.
-    fn copy(&mut self, sections: &[u8]) -> Result<(), Refused> {
-        let end = self.place + sections.len();
+    fn copy(&mut self, section: &[u8]) {
+        let end = self.place + section.len();
         if self.out.len() < end {
             self.out.resize(end, 0);
         }
-        self.out[self.place..end].copy_from_slice(sections);
-        while self.place < end {
-            let place = self.place;
-            match self.buffer.read_section(self.order, &self.out[..end], place) {
-                Ok(Section::Passed { next } | Section::Pane { next, .. }) => self.place = next,
-                Ok(Section::End) => break,
-                Err(refusal) => return Err(Refused { place, refusal }),
-            }
-        }
-        Ok(())
+        self.out[self.place..end].copy_from_slice(section);
+        self.place = end;
     }
 
     fn finish(mut self) -> Vec<u8> {

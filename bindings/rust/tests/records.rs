@@ -236,20 +236,19 @@ fn a_view_has_the_fields_of_its_record() {
     assert_eq!((view.vertex_colors(), view.material_index()), (None, None));
 }
 
-fn other(order: ByteOrder, letters: &[u8; 4], body: &[u8]) -> Vec<u8> {
+fn other(order: ByteOrder, letters: &[u8; 4], body: &[u8]) -> Piece {
     let size = 8 + body.len() as u32;
     let size = if order == Little { size.to_le_bytes() } else { size.to_be_bytes() };
-    [letters, &size, body].concat()
+    Piece::Other { order, section: [letters, &size, body].concat() }
 }
 
 #[test]
 fn a_page_comes_back_with_its_other_sections() {
-    for order in [Little, Big] {
-        let user_data = other(order, b"usd1", b"abcd");
-        let pieces = vec![Piece::Other(user_data.clone()), Piece::Pane(Box::default()), Piece::Other(other(order, b"pas1", b""))];
+    for (order, user_data) in [(Little, b"usd1\x0c\0\0\0abcd"), (Big, b"usd1\0\0\0\x0cabcd")] {
+        let pieces = vec![other(order, b"usd1", b"abcd"), Piece::Pane(Box::default()), other(order, b"pas1", b"")];
         let page = write_page(order, &pieces).unwrap();
         assert_eq!(page.len(), 12 + 84 + 8);
-        assert_eq!(page[..12], user_data);
+        assert_eq!(page[..12], *user_data);
         assert_eq!(read_page(order, &page).unwrap(), pieces);
         assert_eq!(write_page(order, &read_page(order, &page).unwrap()).unwrap(), page);
         assert_eq!(read_strip(order, &page).unwrap(), [Record::default()]);
@@ -257,16 +256,35 @@ fn a_page_comes_back_with_its_other_sections() {
 }
 
 #[test]
+fn a_page_of_panes_is_taken_into_the_other_byte_order() {
+    for (order, turned) in [(Little, Big), (Big, Little)] {
+        let records = page();
+        let page = read_page(order, &write_strip(order, &records).unwrap()).unwrap();
+        assert_eq!(write_page(turned, &page).unwrap(), write_strip(turned, &records).unwrap());
+    }
+}
+
+#[test]
 fn a_section_of_another_kind_is_not_taken_into_the_other_byte_order() {
-    let pane = Piece::Pane(Box::default());
-    let page = read_page(Little, &write_page(Little, &[pane.clone(), Piece::Other(other(Little, b"grp1", b"abcd"))]).unwrap()).unwrap();
-    let refused = |place, size| Refused { place, refusal: Refusal::SectionSize { place: place as u64 + 4, size } };
-    assert_eq!(write_page(Big, &page), Err(refused(84, 0x0C00_0000)));
-    assert_eq!(write_page(Big, &page[..1]).map(|strip| read_page(Big, &strip)), Ok(Ok(vec![pane])));
-    let cut = other(Big, b"grp1", b"abcd")[..8].to_vec();
-    let two = [other(Big, b"grp1", b""), cut].concat();
-    assert_eq!(write_page(Big, &[Piece::Other(two)]), Err(refused(8, 12)));
-    let two = [other(Big, b"grp1", b""), other(Big, b"usd1", b"abcd")];
-    let page = write_page(Big, &[Piece::Other(two.concat()), Piece::Other(Vec::new())]).unwrap();
-    assert_eq!(read_page(Big, &page).unwrap(), two.map(Piece::Other));
+    // 65,792 is 00 01 01 00: a size that is the same either way round does not hide the order.
+    for body in [0, 4, 65_784] {
+        for (order, turned) in [(Little, Big), (Big, Little)] {
+            let pieces = [Piece::Pane(Box::default()), other(order, b"grp1", &vec![1; body])];
+            let page = read_page(order, &write_page(order, &pieces).unwrap()).unwrap();
+            assert_eq!(page, pieces);
+            assert_eq!(write_page(turned, &page), Err(NotWritten::OtherOrder { place: 84, order }));
+        }
+    }
+    let said = |order| NotWritten::OtherOrder { place: 84, order }.to_string();
+    assert_eq!(said(Little), "section at 84: of another kind and little-endian, so it cannot be written into a big-endian page");
+    assert_eq!(said(Big), "section at 84: of another kind and big-endian, so it cannot be written into a little-endian page");
+}
+
+#[test]
+fn a_page_tells_the_pane_that_is_refused() {
+    let mut pane = Record::default();
+    pane.base.flag_ex.reserve0 = 32;
+    let pieces = [other(Big, b"pas1", b""), Piece::Pane(Box::new(pane))];
+    let refused = Refused { place: 8, refusal: Refusal::Reserve0 { value: 32 } };
+    assert_eq!(write_page(Big, &pieces), Err(NotWritten::Refused(refused)));
 }

@@ -3,7 +3,7 @@ use mathlib.Core.Path.{_≡_, sym, ap, _∙_}
 use Prim.Native.Nat.{ℕ, _≤_, _<_}
 use mathlib.Core.List.{List}
 use lib.ListN.{length, getD}
-use borrow.Author.Tests.{lt-ltb, le-ltb, le-leb, lt-leb}
+use borrow.Author.Tests.{lt-ltb, le-ltb}
 use Rattle.core.specs.declared.cursor.ByteOrder.{ByteOrder}
 use Rattle.core_checks.specs.declared.checks.Written.{Written}
 use Rattle.strip_records.specs.Whole.{Lists, lists}
@@ -15,6 +15,7 @@ use Rattle.flat_records.specs.declared.bounds.Checked.{Checked}
 use Rattle.flat_records.specs.declared.bounds.Checked.the-variants.{Good, Bad}
 use Rattle.exports_answers.specs.Answers.{shortRecord, badOrder, orderOf, badWord, writtenAnswer, returned, given}
 use Rattle.exports_answers.specs.declared.answers.Answer.{Answer}
+use Rattle.exports_answers.specs.declared.answers.OrderFound.the-variants.{Is, Other}
 use Rattle.exports_read.specs.Outcomes.{ReadOutcome, readOutcome}
 use Rattle.exports_parts.proofs.Outcomes.{of-short, of-bad, of-good}
 use Rattle.exports.specs.Calls.{WriteOutcome, writeOutcome, sectionWritten, bodyWritten, readSeen, seenRead, writeSeen, seenWrite, seenPart}
@@ -23,41 +24,41 @@ use Rattle.flat_write.specs.Bodies.{bodyAnswer, bodyOutput}
 -- ---- writes
 
 module _ (n : ℕ) (w : List ℕ) (l : Lists) (name o : List ℕ) (p : ℕ) (x : Answer) where
-  pub written-other : 2 ≤ n → x ≡ badOrder n → writeOutcome x o ≡ sectionWritten n w l name o p
+  pub written-other : orderOf n ≡ Other → x ≡ badOrder n → writeOutcome x o ≡ sectionWritten n w l name o p
   unfolding sectionWritten
-  written-other h e = rw (le-leb 2 n h, e)
+  written-other h e = rw (h, e)
 
-  pub body-written-other : 2 ≤ n → x ≡ badOrder n → writeOutcome x o ≡ bodyWritten n w l name o p
+  pub body-written-other : orderOf n ≡ Other → x ≡ badOrder n → writeOutcome x o ≡ bodyWritten n w l name o p
   unfolding bodyWritten
-  body-written-other h e = rw (le-leb 2 n h, e)
+  body-written-other h e = rw (h, e)
 
-  pub written-short : n < 2 → length w < 116 → x ≡ shortRecord → writeOutcome x o ≡ sectionWritten n w l name o p
+  pub written-short : (order : ByteOrder) → orderOf n ≡ Is order → length w < 116 → x ≡ shortRecord → writeOutcome x o ≡ sectionWritten n w l name o p
   unfolding sectionWritten
-  written-short g h e = rw (lt-leb 2 n g) (ap (λ (a : Answer). writeOutcome a o) e ∙ of-short w (λ (a : Answer). writeOutcome a o) _ h)
+  written-short order g h e = rw g (ap (λ (a : Answer). writeOutcome a o) e ∙ of-short w (λ (a : Answer). writeOutcome a o) _ h)
 
-  pub written-bad : (c : Checked) (i : ℕ) → n < 2 → 116 ≤ length w → c ≡ wordsChecked w → c ≡ Bad i → x ≡ badWord i → writeOutcome x o ≡ sectionWritten n w l name o p
+  pub written-bad : (order : ByteOrder) (c : Checked) (i : ℕ) → orderOf n ≡ Is order → 116 ≤ length w → c ≡ wordsChecked w → c ≡ Bad i → x ≡ badWord i → writeOutcome x o ≡ sectionWritten n w l name o p
   unfolding sectionWritten
-  written-bad c i g h ec ei e = rw (lt-leb 2 n g) (ap (λ (a : Answer). writeOutcome a o) e ∙ of-bad w (λ (a : Answer). writeOutcome a o) _ i h (sym ec ∙ ei))
+  written-bad order c i g h ec ei e = rw g (ap (λ (a : Answer). writeOutcome a o) e ∙ of-bad w (λ (a : Answer). writeOutcome a o) _ i h (sym ec ∙ ei))
 
-  pub section-written : (order : ByteOrder) (o′ : List ℕ) (c : Checked) (k : Kind) (v : Written) → n < 2 → order ≡ orderOf n → 116 ≤ length w → c ≡ wordsChecked w → c ≡ Good → k ≡ kindOf (getD w 0 0)
+  pub section-written : (order : ByteOrder) (o′ : List ℕ) (c : Checked) (k : Kind) (v : Written) → orderOf n ≡ Is order → 116 ≤ length w → c ≡ wordsChecked w → c ≡ Good → k ≡ kindOf (getD w 0 0)
       → v ≡ writeAnswer (record { pane = recordBy k w; lists = l; label = name }) (length o) p → o′ ≡ writeOutput order (record { pane = recordBy k w; lists = l; label = name }) o p
       → x ≡ writtenAnswer v → writeOutcome x o′ ≡ sectionWritten n w l name o p
   unfolding sectionWritten
-  section-written order o′ c k v g en h ec eg ek ev eo ex = rw (lt-leb 2 n g, ← en, ex, ev, eo, ek) (of-good w (λ (a : Answer). writeOutcome a o) _ h (sym ec ∙ eg))
+  section-written order o′ c k v g h ec eg ek ev eo ex = rw (g, ex, ev, eo, ek) (of-good w (λ (a : Answer). writeOutcome a o) _ h (sym ec ∙ eg))
 
-  pub body-written-short : n < 2 → length w < 116 → x ≡ shortRecord → writeOutcome x o ≡ bodyWritten n w l name o p
+  pub body-written-short : (order : ByteOrder) → orderOf n ≡ Is order → length w < 116 → x ≡ shortRecord → writeOutcome x o ≡ bodyWritten n w l name o p
   unfolding bodyWritten
-  body-written-short g h e = rw (lt-leb 2 n g) (ap (λ (a : Answer). writeOutcome a o) e ∙ of-short w (λ (a : Answer). writeOutcome a o) _ h)
+  body-written-short order g h e = rw g (ap (λ (a : Answer). writeOutcome a o) e ∙ of-short w (λ (a : Answer). writeOutcome a o) _ h)
 
-  pub body-written-bad : (c : Checked) (i : ℕ) → n < 2 → 116 ≤ length w → c ≡ wordsChecked w → c ≡ Bad i → x ≡ badWord i → writeOutcome x o ≡ bodyWritten n w l name o p
+  pub body-written-bad : (order : ByteOrder) (c : Checked) (i : ℕ) → orderOf n ≡ Is order → 116 ≤ length w → c ≡ wordsChecked w → c ≡ Bad i → x ≡ badWord i → writeOutcome x o ≡ bodyWritten n w l name o p
   unfolding bodyWritten
-  body-written-bad c i g h ec ei e = rw (lt-leb 2 n g) (ap (λ (a : Answer). writeOutcome a o) e ∙ of-bad w (λ (a : Answer). writeOutcome a o) _ i h (sym ec ∙ ei))
+  body-written-bad order c i g h ec ei e = rw g (ap (λ (a : Answer). writeOutcome a o) e ∙ of-bad w (λ (a : Answer). writeOutcome a o) _ i h (sym ec ∙ ei))
 
-  pub body-written : (order : ByteOrder) (o′ : List ℕ) (c : Checked) (k : Kind) (v : Written) → n < 2 → order ≡ orderOf n → 116 ≤ length w → c ≡ wordsChecked w → c ≡ Good → k ≡ kindOf (getD w 0 0)
+  pub body-written : (order : ByteOrder) (o′ : List ℕ) (c : Checked) (k : Kind) (v : Written) → orderOf n ≡ Is order → 116 ≤ length w → c ≡ wordsChecked w → c ≡ Good → k ≡ kindOf (getD w 0 0)
       → v ≡ bodyAnswer k (record { pane = recordBy k w; lists = l; label = name }) (length o) p → o′ ≡ bodyOutput order k (record { pane = recordBy k w; lists = l; label = name }) o p
       → x ≡ writtenAnswer v → writeOutcome x o′ ≡ bodyWritten n w l name o p
   unfolding bodyWritten recordBy
-  body-written order o′ c k v g en h ec eg ek ev eo ex = rw (lt-leb 2 n g, ← en, ex, ev, eo, ek) (of-good w (λ (a : Answer). writeOutcome a o) _ h (sym ec ∙ eg))
+  body-written order o′ c k v g h ec eg ek ev eo ex = rw (g, ex, ev, eo, ek) (of-good w (λ (a : Answer). writeOutcome a o) _ h (sym ec ∙ eg))
 
 -- ---- what the caller sees
 

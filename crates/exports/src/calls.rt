@@ -1,6 +1,7 @@
 // The writes over the words of a record.
 use exports_answers::answers;
 use exports_answers::answers::Answer;
+use exports_answers::answers::OrderFound;
 use exports_answers::answers::bad_order;
 use exports_answers::answers::bad_word;
 use exports_answers::answers::order_of;
@@ -28,10 +29,10 @@ pub(crate) fn write_section(
 ) -> Answer
     ensures { λ a. ⌜ writeOutcome a (now (out .exit)) ≡ sectionWritten order (now (words .entry)) (lists (now (quads .entry)) (now (units .entry)) (now (lines .entry)) (now (frames .entry))) (now (label .entry)) (now (out .entry)) place ⌝ }
 {
-    if 2 <= order {
+    let found = order_of(order);
+    let OrderFound::Is(o) = found else {
         return bad_order(order);
-    }
-    let o = order_of(order);
+    };
     if words.len() < layout::RECORD_WORDS {
         return short_record();
     }
@@ -59,10 +60,10 @@ pub(crate) fn write_body(
 ) -> Answer
     ensures { λ a. ⌜ writeOutcome a (now (out .exit)) ≡ bodyWritten order (now (words .entry)) (lists (now (quads .entry)) (now (units .entry)) (now (lines .entry)) (now (frames .entry))) (now (label .entry)) (now (out .entry)) place ⌝ }
 {
-    if 2 <= order {
+    let found = order_of(order);
+    let OrderFound::Is(o) = found else {
         return bad_order(order);
-    }
-    let o = order_of(order);
+    };
     if words.len() < layout::RECORD_WORDS {
         return short_record();
     }

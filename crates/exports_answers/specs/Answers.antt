@@ -1,8 +1,8 @@
 -- What a call answers: the number that it returns, and its answer's words. Numbers are those of layout.rt of flat.
-use Prim.Native.Nat.{ℕ, zero, suc}
+use Prim.Native.Nat.{ℕ}
 use mathlib.Core.Bool.{cond}
 use mathlib.Core.List.{List, [], _∷_}
-use lib.Dec.{leb}
+use lib.Dec.{eqb}
 use Rattle.core.specs.Bytes.{splice}
 use Rattle.core.specs.Refusals.{numberOf, figureA, figureB}
 use Rattle.core.specs.declared.cursor.ByteOrder.{ByteOrder}
@@ -13,6 +13,8 @@ use Rattle.core_checks.specs.declared.checks.Written.the-variants as Writtens
 use Rattle.strip_header.specs.declared.Section.{Section}
 use Rattle.strip_header.specs.declared.Section.the-variants as Sections
 use Rattle.exports_answers.specs.declared.answers.Answer.{Answer}
+use Rattle.exports_answers.specs.declared.answers.OrderFound.{OrderFound}
+use Rattle.exports_answers.specs.declared.answers.OrderFound.the-variants.{Is, Other}
 
 abbrev pub answer : ℕ → ℕ → ℕ → ℕ → Answer
 answer code a b c = record { code = code; a = a; b = b; c = c }
@@ -29,14 +31,17 @@ badWord index = answer 6 index 0 0
 abbrev pub badOrder : ℕ → Answer
 badOrder n = answer 9 n 0 0
 
--- the byte order that a number below 2 names: LITTLE, BIG
-abbrev pub orderOf : ℕ → ByteOrder
-orderOf zero = Little
-orderOf (suc n) = Big
+-- the byte order that a number names: LITTLE, BIG
+unfoldable pub orderOf : ℕ → OrderFound
+orderOf n = cond (eqb n 0) (Is Little) (cond (eqb n 1) (Is Big) Other)
 
 -- what a call gives that is handed the number of a byte order: BAD_ORDER of one that names none, before all else of the call
+abbrev pub unlessOther : {A : Type 0} → OrderFound → A → (ByteOrder → A) → A
+unlessOther (Is order) bad named = named order
+unlessOther Other bad named = bad
+
 abbrev pub ofOrder : {A : Type 0} → ℕ → (Answer → A) → (ByteOrder → A) → A
-ofOrder n bad named = cond (leb 2 n) (bad (badOrder n)) (named (orderOf n))
+ofOrder n bad named = unlessOther (orderOf n) (bad (badOrder n)) named
 
 -- REFUSED: document 01's number and figures
 abbrev pub refusedAnswer : Refusal → Answer

@@ -16,6 +16,12 @@ pub struct Answer {
     pub c: u64,
 }
 
+// The byte order that a number names, if it names one.
+pub enum OrderFound {
+    Is(ByteOrder),
+    Other,
+}
+
 pub fn short_record() -> Answer
     ensures { λ r. ⌜ r ≡ shortRecord ⌝ }
 {
@@ -49,14 +55,16 @@ pub fn bad_order(n: u64) -> Answer
     }
 }
 
-// The byte order of a number; an unknown number reads as the last.
-pub fn order_of(n: u64) -> ByteOrder
+pub fn order_of(n: u64) -> OrderFound
     ensures { λ r. ⌜ r ≡ orderOf n ⌝ }
 {
     if n == layout::LITTLE {
-        return ByteOrder::Little;
+        return OrderFound::Is(ByteOrder::Little);
     }
-    ByteOrder::Big
+    if n == layout::BIG {
+        return OrderFound::Is(ByteOrder::Big);
+    }
+    OrderFound::Other
 }
 
 pub fn refused(why: Refusal) -> Answer

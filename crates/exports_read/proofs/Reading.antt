@@ -21,6 +21,7 @@ use Rattle.flat_records.specs.Records.{kindOf, recordWords}
 use Rattle.exports_answers.specs.Answers.{shortRecord, badWord, badOrder, orderOf, refusedAnswer, sectionAnswer}
 use Rattle.exports_read.specs.Outcomes.{ReadOutcome, readOutcome, delivered, sectionOutcome, listsParsed, bodyFinished, bodyDelivered, bodyOutcome}
 use Rattle.exports_answers.specs.declared.answers.Answer.{Answer}
+use Rattle.exports_answers.specs.declared.answers.OrderFound.the-variants.{Is, Other}
 
 -- ---- a body, as a section with its next place
 
@@ -68,31 +69,31 @@ module _ (o : ReadOutcome) (w : List ℕ) where
   delivered-on r v l m er el d = rw (← er, ← el) d
 
   module _ (n : ℕ) (s : List ℕ) (p : ℕ) (l : Lists) where
-    pub section-other : 2 ≤ n → o ≡ readOutcome (badOrder n) w l → o ≡ sectionOutcome n s p l w
+    pub section-other : orderOf n ≡ Other → o ≡ readOutcome (badOrder n) w l → o ≡ sectionOutcome n s p l w
     unfolding sectionOutcome
-    section-other h e = rw (le-leb 2 n h) e
+    section-other h e = rw h e
 
-    pub section-short : n < 2 → length w < 116 → o ≡ readOutcome shortRecord w l → o ≡ sectionOutcome n s p l w
+    pub section-short : (order : ByteOrder) → orderOf n ≡ Is order → length w < 116 → o ≡ readOutcome shortRecord w l → o ≡ sectionOutcome n s p l w
     unfolding sectionOutcome
-    section-short g h e = rw (lt-leb 2 n g, lt-ltb (length w) 116 h) e
+    section-short order g h e = rw (g, lt-ltb (length w) 116 h) e
 
-    pub section-read : (order : ByteOrder) → n < 2 → order ≡ orderOf n → 116 ≤ length w → o ≡ delivered (readSection order s p l) w (listsAfter order s p l) → o ≡ sectionOutcome n s p l w
+    pub section-read : (order : ByteOrder) → orderOf n ≡ Is order → 116 ≤ length w → o ≡ delivered (readSection order s p l) w (listsAfter order s p l) → o ≡ sectionOutcome n s p l w
     unfolding sectionOutcome
-    section-read order g eo h e = rw (lt-leb 2 n g, le-ltb (length w) 116 h, ← eo) e
+    section-read order g h e = rw (g, le-ltb (length w) 116 h) e
 
     module _ (k : ℕ) where
-      pub body-other : 2 ≤ n → o ≡ readOutcome (badOrder n) w l → o ≡ bodyOutcome n k s p l w
+      pub body-other : orderOf n ≡ Other → o ≡ readOutcome (badOrder n) w l → o ≡ bodyOutcome n k s p l w
       unfolding bodyOutcome
-      body-other h e = rw (le-leb 2 n h) e
+      body-other h e = rw h e
 
-      pub body-short : n < 2 → length w < 116 → o ≡ readOutcome shortRecord w l → o ≡ bodyOutcome n k s p l w
+      pub body-short : (order : ByteOrder) → orderOf n ≡ Is order → length w < 116 → o ≡ readOutcome shortRecord w l → o ≡ bodyOutcome n k s p l w
       unfolding bodyOutcome
-      body-short g h e = rw (lt-leb 2 n g, lt-ltb (length w) 116 h) e
+      body-short order g h e = rw (g, lt-ltb (length w) 116 h) e
 
-      pub body-bad : n < 2 → 116 ≤ length w → 5 ≤ k → o ≡ readOutcome (badWord 0) w l → o ≡ bodyOutcome n k s p l w
+      pub body-bad : (order : ByteOrder) → orderOf n ≡ Is order → 116 ≤ length w → 5 ≤ k → o ≡ readOutcome (badWord 0) w l → o ≡ bodyOutcome n k s p l w
       unfolding bodyOutcome
-      body-bad g h b e = rw (lt-leb 2 n g, le-ltb (length w) 116 h, le-leb 5 k b) e
+      body-bad order g h b e = rw (g, le-ltb (length w) 116 h, le-leb 5 k b) e
 
-      pub body-read : (order : ByteOrder) (kind : Kind) → n < 2 → order ≡ orderOf n → 116 ≤ length w → k < 5 → kind ≡ kindOf k → o ≡ bodyDelivered order kind s p l w → o ≡ bodyOutcome n k s p l w
+      pub body-read : (order : ByteOrder) (kind : Kind) → orderOf n ≡ Is order → 116 ≤ length w → k < 5 → kind ≡ kindOf k → o ≡ bodyDelivered order kind s p l w → o ≡ bodyOutcome n k s p l w
       unfolding bodyOutcome
-      body-read order kind g eo h f ek e = rw (lt-leb 2 n g, le-ltb (length w) 116 h, lt-leb 5 k f, ← eo, ← ek) e
+      body-read order kind g h f ek e = rw (g, le-ltb (length w) 116 h, lt-leb 5 k f, ← ek) e

@@ -5,6 +5,7 @@ use core::cursor::ByteOrder;
 use core::cursor::Place;
 use exports_answers::answers;
 use exports_answers::answers::Answer;
+use exports_answers::answers::OrderFound;
 use flat::layout;
 use flat_records::records;
 use strip_header::Section;
@@ -78,10 +79,10 @@ pub fn read_section(
 ) -> Answer
     ensures { λ a. ⌜ readOutcome a (now (words .exit)) (lists (now (quads .exit)) (now (units .exit)) (now (lines .exit)) (now (frames .exit))) ≡ sectionOutcome order (now («data» .entry)) place (lists (now (quads .entry)) (now (units .entry)) (now (lines .entry)) (now (frames .entry))) (now (words .entry)) ⌝ }
 {
-    if 2 <= order {
+    let found = answers::order_of(order);
+    let OrderFound::Is(o) = found else {
         return answers::bad_order(order);
-    }
-    let o = answers::order_of(order);
+    };
     if words.len() < layout::RECORD_WORDS {
         return answers::short_record();
     }
@@ -121,10 +122,10 @@ pub fn read_body(
 ) -> Answer
     ensures { λ a. ⌜ readOutcome a (now (words .exit)) (lists (now (quads .exit)) (now (units .exit)) (now (lines .exit)) (now (frames .exit))) ≡ bodyOutcome order kind (now («data» .entry)) place (lists (now (quads .entry)) (now (units .entry)) (now (lines .entry)) (now (frames .entry))) (now (words .entry)) ⌝ }
 {
-    if 2 <= order {
+    let found = answers::order_of(order);
+    let OrderFound::Is(o) = found else {
         return answers::bad_order(order);
-    }
-    let o = answers::order_of(order);
+    };
     if words.len() < layout::RECORD_WORDS {
         return answers::short_record();
     }

@@ -188,10 +188,12 @@ pub const IS_VERTICAL_ALIGNMENT: usize = 65;
 // How many words a record has.
 pub const RECORD_WORDS: usize = 116;
 
-// ---- the byte order of a call
+// ---- the byte order of a call: how a number of two or four bytes stands in the bytes
 
+// The lowest byte first.
 pub const LITTLE: u64 = 0;
 
+// The highest byte first.
 pub const BIG: u64 = 1;
 
 // ---- what a call returns, and what it puts into the answer's words

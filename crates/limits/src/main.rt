@@ -18,6 +18,10 @@ fn print_figure(n: usize) {
     io::print_decimal(STDOUT_FILENO, n as u64);
 }
 
+fn wide(b: u8) -> usize {
+    b as usize
+}
+
 // `no NUMBER a b`
 fn print_refusal(why: Refusal) {
     print(b"no");
@@ -80,9 +84,21 @@ fn read_back(order: ByteOrder, data: &[u8]) {
 
 // ---- writing
 
+// The four bytes of the size of the section at place 0, as they stand.
+fn print_size(out: &[u8]) {
+    if 8 <= out.len() {
+        print(b", size");
+        print_figure(wide(out[4]));
+        print_figure(wide(out[5]));
+        print_figure(wide(out[6]));
+        print_figure(wide(out[7]));
+    }
+}
+
 fn answer_end(order: ByteOrder, out: &[u8], end: usize) {
     print(b" end");
     print_figure(end);
+    print_size(out);
     if end <= out.len() {
         read_back(order, &out[0..end]);
     }

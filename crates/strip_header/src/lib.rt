@@ -53,14 +53,8 @@ pub fn take_header(order: ByteOrder, data: &[u8], place: usize) -> Header
     let p2 = word.then;
     let size = word.value as usize;
     let bad = (size < 8) | (0 < size % 4) | (data.len() - place < size);
-    let then = cursor::stop_if(
-        p2,
-        bad,
-        Refusal::SectionSize {
-            place: place + 4,
-            size,
-        },
-    );
+    let at = place + 4;
+    let then = cursor::stop_if(p2, bad, Refusal::SectionSize { place: at, size });
     Header {
         letters: letters.value,
         size,

@@ -1,18 +1,19 @@
-//! Compares nnbfl with the static library: `differential [--big] [--cases N] [--seed N] [--fault NAME | --faults | --outside]`.
+//! Compares nnbfl with the static library: `differential [--big] [--cases N] [--seed N] [--fault NAME | --faults]` or `differential --outside`.
 //!
 //! With `--big` every call is made big-endian, on the mirror of nnbfl's bytes.
 use bidlomeqa::layout::{BIG, LITTLE, RECORD_WORDS};
 use differential::compare::Comparison;
-use differential::fault::{faults, Fault};
+use differential::fault::{faults, Fault, FAULTS, TURNED};
 use differential::generate::{self, bodies, records};
 use differential::outside;
 use differential::random::Random;
 use std::process::exit;
 
-const USAGE: &str = "differential [--big] [--cases N] [--seed N] [--fault NAME | --faults | --outside]";
+const USAGE: &str = "differential [--big] [--cases N] [--seed N] [--fault NAME | --faults]\ndifferential --outside";
 
 fn usage() -> ! {
-    eprintln!("{USAGE}\nfaults: {}", faults(BIG).map(|(name, _)| *name).collect::<Vec<_>>().join(" "));
+    let (all, big) = (FAULTS.map(|(name, _)| name).join(" "), TURNED.map(|(name, _)| name).join(" "));
+    eprintln!("{USAGE}\nfaults: {all}\nfaults of --big alone: {big}");
     exit(2)
 }
 
@@ -90,7 +91,7 @@ fn main() {
             "--seed" => seed = number(),
             "--fault" => fault = words.next().and_then(|n| Fault::named(order, &n, 997)).unwrap_or_else(|| usage()),
             "--faults" => exit(i32::from(!(try_named(order, seed) & try_each(order, seed)))),
-            "--outside" => exit(i32::from(!tell_outside())),
+            "--outside" if order == LITTLE => exit(i32::from(!tell_outside())),
             _ => usage(),
         }
     }

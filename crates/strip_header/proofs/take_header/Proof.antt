@@ -23,8 +23,8 @@ cast-size c = search needs
 sub-bad : tie.Need-sub-bad
 sub-bad c = search needs
 
-add-t15 : tie.Need-add-t15
-add-t15 c = search needs
+add-at : tie.Need-add-at
+add-at c = search needs
 
 stop-if-requires : tie.Need-stop-if-requires
 stop-if-requires c κs = search needs
@@ -48,6 +48,6 @@ take-header-spec =
     take-u32-requires-2
     cast-size
     sub-bad
-    add-t15
+    add-at
     stop-if-requires
     returns)

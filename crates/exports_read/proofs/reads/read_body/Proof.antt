@@ -1,34 +1,43 @@
+use mathlib.Core.Path.{sym, _∙_}
 use Rattle.exports_read.proofs.Reading.{body-other, body-short, body-bad, body-read}
 use borrow.Author.Needs.{needs}
 use Rattle.exports_read.proofs.reads.read_body.Statement.{statement}
 use Rattle.exports_read.proofs.reads.read_body.Tie as tie
 use Rattle.exports_read.proofs.reads.read_body.Reads as reads
 use Rattle.exports_read.proofs.reads.read_body.Lts as lts
+use Rattle.exports_answers.proofs.answers.bad_order.Reads as bad-order-reads
 use Rattle.exports_answers.proofs.answers.bad_word.Reads as bad-word-reads
+use Rattle.exports_answers.proofs.answers.order_of.Reads as order-of-reads
 use Rattle.exports_answers.proofs.answers.short_record.Reads as short-record-reads
 use Rattle.exports_read.proofs.bodies.parse_kind.Reads as parse-kind-reads
 use Rattle.flat_records.proofs.records.kind_of.Reads as kind-of-reads
+
+order-of-requires : tie.Need-order-of-requires
+order-of-requires c κs = search needs
+
+enum-known-found : tie.Need-enum-known-found
+enum-known-found c = search needs
+
+enum-told : tie.Need-enum-told
+enum-told c = search needs
 
 bad-order-requires : tie.Need-bad-order-requires
 bad-order-requires c κs = search needs
 
 returns : tie.Need-returns
-returns c = body-other _ _ _ _ _ _ _ (c .before .if1 .taken) (rw (c .bad-order .ensures))
-
-order-of-requires : tie.Need-order-of-requires
-order-of-requires c κs = search needs
+returns c = body-other _ _ _ _ _ _ _ (sym (c .before .before .before .order-of .ensures) ∙ c .before .enum-told .given .1) (rw (c .bad-order .ensures))
 
 short-record-requires : tie.Need-short-record-requires
 short-record-requires c κs = search needs
 
 returns-2 : tie.Need-returns-2
-returns-2 c = body-short _ _ _ _ _ _ _ (c .before .before .before .if1 .left) (c .before .if2 .taken) (rw (c .short-record .ensures))
+returns-2 c = body-short _ _ _ _ _ _ _ _ (sym (c .before .before .before .before .before .order-of .ensures) ∙ c .before .before .before .found .given .1) (c .before .if1 .taken) (rw (c .short-record .ensures))
 
 bad-word-requires : tie.Need-bad-word-requires
 bad-word-requires c κs = search needs
 
 returns-3 : tie.Need-returns-3
-returns-3 c = body-bad _ _ _ _ _ _ _ (c .before .before .before .before .if1 .left) (c .before .before .if2 .left) (c .before .if3 .taken) (rw (c .bad-word .ensures))
+returns-3 c = body-bad _ _ _ _ _ _ _ _ (sym (c .before .before .before .before .before .before .order-of .ensures) ∙ c .before .before .before .before .found .given .1) (c .before .before .if1 .left) (c .before .if2 .taken) (rw (c .bad-word .ensures))
 
 kind-of-requires : tie.Need-kind-of-requires
 kind-of-requires c κs = search needs
@@ -52,15 +61,17 @@ same-length-5 : tie.Need-same-length-5
 same-length-5 c = search needs
 
 returns-4 : tie.Need-returns-4
-returns-4 c = body-read _ _ _ _ _ _ _ _ _ (c .before .before .before .before .before .before .before .before .before .before .before .before .before .before .before .before .before .before .before .before .if1 .left) (c .before .before .before .before .before .before .before .before .before .before .before .before .before .before .before .before .before .before .before .order-of .ensures) (c .before .before .before .before .before .before .before .before .before .before .before .before .before .before .before .before .before .before .if2 .left) (c .before .before .before .before .before .before .before .before .before .before .before .before .before .before .before .before .before .if3 .left) (c .before .before .before .before .before .before .before .before .before .before .before .before .before .before .before .before .kind-of .ensures) (c .before .before .before .before .before .before .before .before .before .before .parse-kind .ensures)
+returns-4 c = body-read _ _ _ _ _ _ _ _ _ (sym (c .before .before .before .before .before .before .before .before .before .before .before .before .before .before .before .before .before .before .before .before .before .before .order-of .ensures) ∙ c .before .before .before .before .before .before .before .before .before .before .before .before .before .before .before .before .before .before .before .before .found .given .1) (c .before .before .before .before .before .before .before .before .before .before .before .before .before .before .before .before .before .before .if1 .left) (c .before .before .before .before .before .before .before .before .before .before .before .before .before .before .before .before .before .if2 .left) (c .before .before .before .before .before .before .before .before .before .before .before .before .before .before .before .before .kind-of .ensures) (c .before .before .before .before .before .before .before .before .before .before .parse-kind .ensures)
 
 pub read-body-spec : {M : Type 1} → statement M
 read-body-spec =
     tie.close
     (tie.spec
+    order-of-requires
+    enum-known-found
+    enum-told
     bad-order-requires
     returns
-    order-of-requires
     short-record-requires
     returns-2
     bad-word-requires

@@ -4,7 +4,7 @@
 //! where it writes, the mirror of what nnbfl writes.
 use crate::fault::{Fault, Left};
 use crate::mirror;
-use crate::oracle::{self, Outcome};
+use crate::oracle::{self, Outcome, LIMIT};
 use crate::tally::{Case, Tally};
 use crate::whole::*;
 use bidlomeqa::calls::{self, ReadLists};
@@ -277,13 +277,18 @@ impl Comparison {
             Err(refusal) => panic!("a typed read was refused: {refusal}"),
         };
         self.scratch = oracle::written(&self.whole, false, place, std::mem::take(&mut self.scratch));
-        let model = if self.order == BIG { self.mirrored(case.kind, false, place) } else { self.scratch.clone() };
+        let mut model = if self.order == BIG { self.mirrored(case.kind, false, place) } else { self.scratch.clone() };
         let end = model.len();
         let mut out = vec![0; end];
+        let mut expected = (WRITTEN, [end as u64, 0, 0]);
+        // nnbfl's output grows without bound; one that is longer than document 01 lets through is refused by 1 and stays as it was.
+        if end > LIMIT {
+            expected = (REFUSED, [1, end as u64, 0]);
+            model.fill(0);
+        }
         let answer = self.buffer.write_body(order, &record, &mut out, place);
         let case = Case { call: "typed body", ..case };
         let found = answer.map_or_else(|no| (REFUSED, no.figures().into()), |end| (WRITTEN, [end as u64, 0, 0]));
-        let expected = (WRITTEN, [end as u64, 0, 0]);
         if found != expected || out[place..] != model[place..] {
             let mut what = Vec::new();
             different("byte", &model[place..], &out[place..], &mut what);

@@ -35,7 +35,7 @@ badOrder n = answer 9 n 0 0
 unfoldable pub orderOf : ℕ → OrderFound
 orderOf n = cond (eqb n 0) (Is Little) (cond (eqb n 1) (Is Big) Other)
 
--- what a call gives that is handed the number of a byte order: BAD_ORDER of one that names none, before all else of the call
+-- what a call gives that is handed the number of a byte order: BAD_ORDER of one that names none, after SHORT_ANSWER and before all else
 abbrev pub unlessOther : {A : Type 0} → OrderFound → A → (ByteOrder → A) → A
 unlessOther (Is order) bad named = named order
 unlessOther Other bad named = bad

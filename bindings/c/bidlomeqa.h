@@ -262,9 +262,9 @@ extern "C" {
 #define BIDLOMEQA_FRAMES_NEED 510
 
 /*
- * `order` is LITTLE or BIG: how numbers of two or four bytes stand in `data` and `out`. Letters, names, labels, colours and single bytes have no order. It
- * is never guessed from the bytes: a .bflyt file tells it by the mark in its header, which is no part of a strip (bytes FF FE little, FE FF big). The words
- * of a record and the four lists are plain numbers of the machine, in either order.
+ * `order` is LITTLE or BIG: how numbers of two or four bytes stand in `data` and `out`. Letters, names, labels, colours and single bytes have no order.
+ * The order is never guessed from the bytes: a .bflyt file tells it by the mark in its header, which is no part of a strip (bytes FF FE little, FE FF big).
+ * The words of a record and the four lists are plain numbers of the machine, in either order.
  *
  * SHORT_ANSWER is looked for first, then BAD_ORDER, then SHORT_RECORD, then BAD_WORD, and then what docs/REFUSALS.md lists.
  */

@@ -283,7 +283,7 @@ impl Comparison {
         let mut expected = (WRITTEN, [end as u64, 0, 0]);
         // nnbfl's output grows without bound; one that is longer than document 01 lets through is refused by 1 and stays as it was.
         if end > LIMIT {
-            expected = (REFUSED, [1, end as u64, 0]);
+            expected = oracle::refused(1, end, 0);
             model.fill(0);
         }
         let answer = self.buffer.write_body(order, &record, &mut out, place);

@@ -58,6 +58,11 @@ impl Tally {
         }
     }
 
+    /// How many cases of a call had an outcome.
+    pub fn of(&self, call: &str, code: u64, number: u64) -> u64 {
+        self.counts.iter().filter(|((case, c, n), _)| (case.call, *c, *n) == (call, code, number)).map(|(_, count)| count).sum()
+    }
+
     /// Counts bytes that have no mirror, which are no case.
     pub fn without_mirror(&mut self, generator: &'static str) {
         *self.unmirrored.entry(generator).or_insert(0) += 1;

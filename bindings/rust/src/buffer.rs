@@ -8,7 +8,7 @@ use crate::words::Words;
 
 /// In which order the bytes of a number of two or four bytes stand. Letters, names, labels, colours and single bytes have none.
 ///
-/// It is never guessed from the bytes: a .bflyt file tells it by the mark in its header, which is no part of a strip (bytes FF FE little, FE FF big).
+/// The order is never guessed from the bytes: a .bflyt file tells it by the mark in its header, which is no part of a strip (bytes FF FE little, FE FF big).
 #[derive(Debug, Clone, Copy, PartialEq, Eq, Hash)]
 pub enum ByteOrder {
     /// The lowest byte first.

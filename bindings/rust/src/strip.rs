@@ -78,8 +78,8 @@ pub fn read_page(order: ByteOrder, strip: &[u8]) -> Result<Vec<Piece>, Refused> 
     }
 }
 
-/// Writes the sections of a page, one after another. Panes may have been read in either byte order. A section of another kind is copied as it stands, so one
-/// of the other byte order is not written.
+/// Writes the sections of a page, one after another. Panes may have been read in either byte order. A section of another kind is copied as it stands, its bytes not
+/// looked at: one of the other byte order, by what the piece says, is not written.
 pub fn write_page(order: ByteOrder, pieces: &[Piece]) -> Result<Vec<u8>, NotWritten> {
     let mut out = Output::new(order, pieces.len());
     for piece in pieces {

@@ -13,46 +13,36 @@ use Rattle.flat_records.specs.Records.{kindOf, recordBy}
 use Rattle.flat_records.specs.Below.{wordsChecked}
 use Rattle.flat_records.specs.declared.bounds.Checked.{Checked}
 use Rattle.flat_records.specs.declared.bounds.Checked.the-variants.{Good, Bad}
-use Rattle.exports_answers.specs.Answers.{shortRecord, badOrder, orderOf, badWord, writtenAnswer, returned, given}
+use Rattle.exports_answers.specs.Answers.{shortRecord, badOrder, orderOf, ofOrder, badWord, writtenAnswer, returned, given}
 use Rattle.exports_answers.specs.declared.answers.Answer.{Answer}
 use Rattle.exports_answers.specs.declared.answers.OrderFound.the-variants.{Is, Other}
 use Rattle.exports_read.specs.Outcomes.{ReadOutcome, readOutcome}
+use Rattle.exports_parts.specs.Parts.{ofRecord}
 use Rattle.exports_parts.proofs.Outcomes.{of-short, of-bad, of-good}
 use Rattle.exports.specs.Calls.{WriteOutcome, writeOutcome, sectionWritten, bodyWritten, readSeen, seenRead, writeSeen, seenWrite, seenPart}
 use Rattle.flat_write.specs.Bodies.{bodyAnswer, bodyOutput}
 
 -- ---- writes
 
-module _ (n : ℕ) (w : List ℕ) (l : Lists) (name o : List ℕ) (p : ℕ) (x : Answer) where
-  pub written-other : orderOf n ≡ Other → x ≡ badOrder n → writeOutcome x o ≡ sectionWritten n w l name o p
-  unfolding sectionWritten
+-- where nothing is written, of a section and of a body alike
+module _ (n : ℕ) (o : List ℕ) (then : ByteOrder → WriteOutcome) (x : Answer) where
+  pub written-other : orderOf n ≡ Other → x ≡ badOrder n → writeOutcome x o ≡ ofOrder n (λ a. writeOutcome a o) then
   written-other h e = rw (h, e)
 
-  pub body-written-other : orderOf n ≡ Other → x ≡ badOrder n → writeOutcome x o ≡ bodyWritten n w l name o p
-  unfolding bodyWritten
-  body-written-other h e = rw (h, e)
+  module _ (w : List ℕ) (order : ByteOrder) (g : orderOf n ≡ Is order) where
+    pub written-short : length w < 116 → x ≡ shortRecord → writeOutcome x o ≡ ofOrder n (λ a. writeOutcome a o) (λ b. ofRecord w (λ a. writeOutcome a o) (then b))
+    written-short h e = rw g (ap (λ (a : Answer). writeOutcome a o) e ∙ of-short w (λ (a : Answer). writeOutcome a o) _ h)
 
-  pub written-short : (order : ByteOrder) → orderOf n ≡ Is order → length w < 116 → x ≡ shortRecord → writeOutcome x o ≡ sectionWritten n w l name o p
-  unfolding sectionWritten
-  written-short order g h e = rw g (ap (λ (a : Answer). writeOutcome a o) e ∙ of-short w (λ (a : Answer). writeOutcome a o) _ h)
+    pub written-bad : (c : Checked) (i : ℕ) → 116 ≤ length w → c ≡ wordsChecked w → c ≡ Bad i → x ≡ badWord i
+        → writeOutcome x o ≡ ofOrder n (λ a. writeOutcome a o) (λ b. ofRecord w (λ a. writeOutcome a o) (then b))
+    written-bad c i h ec ei e = rw g (ap (λ (a : Answer). writeOutcome a o) e ∙ of-bad w (λ (a : Answer). writeOutcome a o) _ i h (sym ec ∙ ei))
 
-  pub written-bad : (order : ByteOrder) (c : Checked) (i : ℕ) → orderOf n ≡ Is order → 116 ≤ length w → c ≡ wordsChecked w → c ≡ Bad i → x ≡ badWord i → writeOutcome x o ≡ sectionWritten n w l name o p
-  unfolding sectionWritten
-  written-bad order c i g h ec ei e = rw g (ap (λ (a : Answer). writeOutcome a o) e ∙ of-bad w (λ (a : Answer). writeOutcome a o) _ i h (sym ec ∙ ei))
-
+module _ (n : ℕ) (w : List ℕ) (l : Lists) (name o : List ℕ) (p : ℕ) (x : Answer) where
   pub section-written : (order : ByteOrder) (o′ : List ℕ) (c : Checked) (k : Kind) (v : Written) → orderOf n ≡ Is order → 116 ≤ length w → c ≡ wordsChecked w → c ≡ Good → k ≡ kindOf (getD w 0 0)
       → v ≡ writeAnswer (record { pane = recordBy k w; lists = l; label = name }) (length o) p → o′ ≡ writeOutput order (record { pane = recordBy k w; lists = l; label = name }) o p
       → x ≡ writtenAnswer v → writeOutcome x o′ ≡ sectionWritten n w l name o p
   unfolding sectionWritten
   section-written order o′ c k v g h ec eg ek ev eo ex = rw (g, ex, ev, eo, ek) (of-good w (λ (a : Answer). writeOutcome a o) _ h (sym ec ∙ eg))
-
-  pub body-written-short : (order : ByteOrder) → orderOf n ≡ Is order → length w < 116 → x ≡ shortRecord → writeOutcome x o ≡ bodyWritten n w l name o p
-  unfolding bodyWritten
-  body-written-short order g h e = rw g (ap (λ (a : Answer). writeOutcome a o) e ∙ of-short w (λ (a : Answer). writeOutcome a o) _ h)
-
-  pub body-written-bad : (order : ByteOrder) (c : Checked) (i : ℕ) → orderOf n ≡ Is order → 116 ≤ length w → c ≡ wordsChecked w → c ≡ Bad i → x ≡ badWord i → writeOutcome x o ≡ bodyWritten n w l name o p
-  unfolding bodyWritten
-  body-written-bad order c i g h ec ei e = rw g (ap (λ (a : Answer). writeOutcome a o) e ∙ of-bad w (λ (a : Answer). writeOutcome a o) _ i h (sym ec ∙ ei))
 
   pub body-written : (order : ByteOrder) (o′ : List ℕ) (c : Checked) (k : Kind) (v : Written) → orderOf n ≡ Is order → 116 ≤ length w → c ≡ wordsChecked w → c ≡ Good → k ≡ kindOf (getD w 0 0)
       → v ≡ bodyAnswer k (record { pane = recordBy k w; lists = l; label = name }) (length o) p → o′ ≡ bodyOutput order k (record { pane = recordBy k w; lists = l; label = name }) o p

@@ -1,8 +1,10 @@
 -- What a read answers, branch by branch.
 use mathlib.Core.Path.{_≡_}
 use Prim.Native.Nat.{ℕ, _≤_, _<_}
+use mathlib.Core.Bool.{cond}
 use mathlib.Core.List.{List}
 use lib.ListN.{length}
+use lib.Dec.{ltb}
 use borrow.Author.Tests.{lt-ltb, le-ltb, le-leb, lt-leb}
 use Rattle.core.specs.Bytes.{splice}
 use Rattle.core.specs.declared.cursor.ByteOrder.{ByteOrder}
@@ -18,7 +20,7 @@ use Rattle.strip_records.specs.declared.record.Record.{Record}
 use Rattle.strip_header.specs.declared.Section.the-variants as Sections
 use Rattle.strip_read.specs.declared.read.SectionRead.{SectionRead}
 use Rattle.flat_records.specs.Records.{kindOf, recordWords}
-use Rattle.exports_answers.specs.Answers.{shortRecord, badWord, badOrder, orderOf, refusedAnswer, sectionAnswer}
+use Rattle.exports_answers.specs.Answers.{shortRecord, badWord, badOrder, orderOf, ofOrder, refusedAnswer, sectionAnswer}
 use Rattle.exports_read.specs.Outcomes.{ReadOutcome, readOutcome, delivered, sectionOutcome, listsParsed, bodyFinished, bodyDelivered, bodyOutcome}
 use Rattle.exports_answers.specs.declared.answers.Answer.{Answer}
 use Rattle.exports_answers.specs.declared.answers.OrderFound.the-variants.{Is, Other}
@@ -68,28 +70,21 @@ module _ (o : ReadOutcome) (w : List ℕ) where
   pub delivered-on : (r v : SectionRead) (l m : Lists) → r ≡ v → l ≡ m → o ≡ delivered r w l → o ≡ delivered v w m
   delivered-on r v l m er el d = rw (← er, ← el) d
 
+  -- where nothing is read, of a section and of a body alike
+  module _ (n : ℕ) (l : Lists) (then : ByteOrder → ReadOutcome) where
+    pub read-other : orderOf n ≡ Other → o ≡ readOutcome (badOrder n) w l → o ≡ ofOrder n (λ x. readOutcome x w l) then
+    read-other h e = rw h e
+
+    pub read-short : (order : ByteOrder) → orderOf n ≡ Is order → length w < 116 → o ≡ readOutcome shortRecord w l
+        → o ≡ ofOrder n (λ x. readOutcome x w l) (λ b. cond (ltb (length w) 116) (readOutcome shortRecord w l) (then b))
+    read-short order g h e = rw (g, lt-ltb (length w) 116 h) e
+
   module _ (n : ℕ) (s : List ℕ) (p : ℕ) (l : Lists) where
-    pub section-other : orderOf n ≡ Other → o ≡ readOutcome (badOrder n) w l → o ≡ sectionOutcome n s p l w
-    unfolding sectionOutcome
-    section-other h e = rw h e
-
-    pub section-short : (order : ByteOrder) → orderOf n ≡ Is order → length w < 116 → o ≡ readOutcome shortRecord w l → o ≡ sectionOutcome n s p l w
-    unfolding sectionOutcome
-    section-short order g h e = rw (g, lt-ltb (length w) 116 h) e
-
     pub section-read : (order : ByteOrder) → orderOf n ≡ Is order → 116 ≤ length w → o ≡ delivered (readSection order s p l) w (listsAfter order s p l) → o ≡ sectionOutcome n s p l w
     unfolding sectionOutcome
     section-read order g h e = rw (g, le-ltb (length w) 116 h) e
 
     module _ (k : ℕ) where
-      pub body-other : orderOf n ≡ Other → o ≡ readOutcome (badOrder n) w l → o ≡ bodyOutcome n k s p l w
-      unfolding bodyOutcome
-      body-other h e = rw h e
-
-      pub body-short : (order : ByteOrder) → orderOf n ≡ Is order → length w < 116 → o ≡ readOutcome shortRecord w l → o ≡ bodyOutcome n k s p l w
-      unfolding bodyOutcome
-      body-short order g h e = rw (g, lt-ltb (length w) 116 h) e
-
       pub body-bad : (order : ByteOrder) → orderOf n ≡ Is order → 116 ≤ length w → 5 ≤ k → o ≡ readOutcome (badWord 0) w l → o ≡ bodyOutcome n k s p l w
       unfolding bodyOutcome
       body-bad order g h b e = rw (g, le-ltb (length w) 116 h, le-leb 5 k b) e

@@ -1,16 +1,9 @@
 use mathlib.Core.Path.{sym, _∙_}
-use Rattle.exports_read.proofs.Reading.{body-other, body-short, body-bad, body-read}
+use Rattle.exports_read.proofs.Reading.{read-other, read-short, body-bad, body-read}
+use Rattle.exports_read.specs.Outcomes.{bodyOutcome}
 use borrow.Author.Needs.{needs}
 use Rattle.exports_read.proofs.reads.read_body.Statement.{statement}
 use Rattle.exports_read.proofs.reads.read_body.Tie as tie
-use Rattle.exports_read.proofs.reads.read_body.Reads as reads
-use Rattle.exports_read.proofs.reads.read_body.Lts as lts
-use Rattle.exports_answers.proofs.answers.bad_order.Reads as bad-order-reads
-use Rattle.exports_answers.proofs.answers.bad_word.Reads as bad-word-reads
-use Rattle.exports_answers.proofs.answers.order_of.Reads as order-of-reads
-use Rattle.exports_answers.proofs.answers.short_record.Reads as short-record-reads
-use Rattle.exports_read.proofs.bodies.parse_kind.Reads as parse-kind-reads
-use Rattle.flat_records.proofs.records.kind_of.Reads as kind-of-reads
 
 order-of-requires : tie.Need-order-of-requires
 order-of-requires c κs = search needs
@@ -25,13 +18,15 @@ bad-order-requires : tie.Need-bad-order-requires
 bad-order-requires c κs = search needs
 
 returns : tie.Need-returns
-returns c = body-other _ _ _ _ _ _ _ (sym (c .before .before .before .order-of .ensures) ∙ c .before .enum-told .given .1) (rw (c .bad-order .ensures))
+unfolding bodyOutcome
+returns c = read-other _ _ _ _ _ (sym (c .before .before .before .order-of .ensures) ∙ c .before .enum-told .given .1) (rw (c .bad-order .ensures))
 
 short-record-requires : tie.Need-short-record-requires
 short-record-requires c κs = search needs
 
 returns-2 : tie.Need-returns-2
-returns-2 c = body-short _ _ _ _ _ _ _ _ (sym (c .before .before .before .before .before .order-of .ensures) ∙ c .before .before .before .found .given .1) (c .before .if1 .taken) (rw (c .short-record .ensures))
+unfolding bodyOutcome
+returns-2 c = read-short _ _ _ _ _ _ (sym (c .before .before .before .before .before .order-of .ensures) ∙ c .before .before .before .found .given .1) (c .before .if1 .taken) (rw (c .short-record .ensures))
 
 bad-word-requires : tie.Need-bad-word-requires
 bad-word-requires c κs = search needs

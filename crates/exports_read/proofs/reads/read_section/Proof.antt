@@ -2,19 +2,11 @@ use mathlib.Core.Path.{sym, _∙_}
 use Rattle.strip_records.specs.Whole.{lists}
 use Rattle.strip_read.proofs.Cleared.{read-started}
 use Rattle.strip_read.proofs.Steps.{read-refused, read-end, read-on}
-use Rattle.exports_read.proofs.Reading.{section-other, refused-so, ended-so, delivered-on, section-short, section-read}
+use Rattle.exports_read.proofs.Reading.{read-other, refused-so, ended-so, delivered-on, read-short, section-read}
+use Rattle.exports_read.specs.Outcomes.{sectionOutcome}
 use borrow.Author.Needs.{needs}
 use Rattle.exports_read.proofs.reads.read_section.Statement.{statement}
 use Rattle.exports_read.proofs.reads.read_section.Tie as tie
-use Rattle.exports_read.proofs.reads.read_section.Reads as reads
-use Rattle.exports_read.proofs.reads.read_section.Lts as lts
-use Rattle.exports_answers.proofs.answers.bad_order.Reads as bad-order-reads
-use Rattle.exports_answers.proofs.answers.order_of.Reads as order-of-reads
-use Rattle.exports_answers.proofs.answers.refused.Reads as refused-reads
-use Rattle.exports_answers.proofs.answers.section.Reads as section-reads
-use Rattle.exports_answers.proofs.answers.short_record.Reads as short-record-reads
-use Rattle.exports_read.proofs.reads.read_at.Reads as read-at-reads
-use Rattle.strip_header.proofs.read_start.Reads as read-start-reads
 
 order-of-requires : tie.Need-order-of-requires
 order-of-requires c κs = search needs
@@ -29,13 +21,15 @@ bad-order-requires : tie.Need-bad-order-requires
 bad-order-requires c κs = search needs
 
 returns : tie.Need-returns
-returns c = section-other _ _ _ _ _ _ (sym (c .before .before .before .order-of .ensures) ∙ c .before .enum-told .given .1) (rw (c .bad-order .ensures))
+unfolding sectionOutcome
+returns c = read-other _ _ _ _ _ (sym (c .before .before .before .order-of .ensures) ∙ c .before .enum-told .given .1) (rw (c .bad-order .ensures))
 
 short-record-requires : tie.Need-short-record-requires
 short-record-requires c κs = search needs
 
 returns-2 : tie.Need-returns-2
-returns-2 c = section-short _ _ _ _ _ _ _ (sym (c .before .before .before .before .before .order-of .ensures) ∙ c .before .before .before .found .given .1) (c .before .if1 .taken) (rw (c .short-record .ensures))
+unfolding sectionOutcome
+returns-2 c = read-short _ _ _ _ _ _ (sym (c .before .before .before .before .before .order-of .ensures) ∙ c .before .before .before .found .given .1) (c .before .if1 .taken) (rw (c .short-record .ensures))
 
 read-start-requires : tie.Need-read-start-requires
 read-start-requires c κs = search needs

@@ -227,7 +227,8 @@ extern "C" {
 /* A section of another kind. The next section's place, 0, 0. */
 #define BIDLOMEQA_PASSED 1u
 
-/* A pane, which the record's words hold. The place after the body, the next section's place (0 of a body call), 0. */
+/* A pane, which the record's words hold. The place after the body, the next section's place (0 of a body call), the reach: */
+/* the first place past all bytes that the read of the body looked at. */
 #define BIDLOMEQA_PANE 2u
 
 /* Written. The end place, 0, 0. */
@@ -267,6 +268,16 @@ extern "C" {
  * The words of a record and the four lists are plain numbers of the machine, in either order.
  *
  * SHORT_ANSWER is looked for first, then BAD_ORDER, then SHORT_RECORD, then BAD_WORD, and then what docs/REFUSALS.md lists.
+ */
+
+/*
+ * The reach, the third word of the answer PANE, is the first place past all bytes that the read looked at. It is never before the place after the body,
+ * and never beyond `data`. It is for a caller that keeps only part of a page in memory:
+ * - The bytes from the section's place (of a body call: from `place` - 8) up to the reach are all that the read looked at. Other data that is no shorter
+ *   and has the same bytes there gives the same answer, record, lists and label, unless it is too long for a call.
+ * - Data that is cut below the reach is refused. Cut right at the section's place, it is a strip that ends there.
+ * - Data that is cut at the reach need not be read. The section's size must not pass the end of `data`. Nor must a place that is sought with nothing to
+ *   read there: that of a text with no units, or of a table with no frames. So keep the page's length. The bytes from the reach on may be any.
  */
 
 /* Reads the section at `place`: END, PASSED, PANE, REFUSED, SHORT_RECORD, BAD_ORDER or SHORT_ANSWER. */

@@ -30,7 +30,7 @@ int main(void)
     memcpy(strip + 12, "Menu", 4);
 
     uint64_t code = read_section(strip, sizeof strip, 0);
-    printf("read: %d, body ends at %d, next section at %d\n", (int)code, (int)answer[0], (int)answer[1]);
+    printf("read: %d, body ends at %d, next section at %d, reach %d\n", (int)code, (int)answer[0], (int)answer[1], (int)answer[2]);
     if (code != BIDLOMEQA_PANE || record[BIDLOMEQA_KIND] != 4)
         return 1;
 

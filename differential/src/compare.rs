@@ -5,6 +5,7 @@
 use crate::fault::{Fault, Left};
 use crate::mirror;
 use crate::oracle::{self, Outcome, LIMIT};
+use crate::reach;
 use crate::tally::{Case, Tally};
 use crate::whole::*;
 use bidlomeqa::calls::{self, ReadLists};
@@ -19,6 +20,9 @@ const BYTE: u8 = 0xA5;
 
 /// Numbers beyond the lists and bytes beyond the output that are watched too.
 const GUARD: usize = 8;
+
+/// Of so many panes that were read nnbfl judges the reach of one. A prime, so that no generator keeps in step with it.
+const JUDGED: u64 = 61;
 
 /// What is lent to a read.
 #[derive(PartialEq)]
@@ -109,6 +113,8 @@ pub struct Comparison {
     expected: Lent,
     found: Lent,
     whole: Whole,
+    /// How many panes were read.
+    panes: u64,
     buffer: Buffer,
     out: Vec<u8>,
     /// What nnbfl's writes make of the output, and its mirror in a big-endian run.
@@ -128,6 +134,7 @@ impl Comparison {
             expected: Lent::new(),
             found: Lent::new(),
             whole: Whole::default(),
+            panes: 0,
             buffer: Buffer::new(),
             out: Vec::new(),
             model: Vec::new(),
@@ -150,11 +157,11 @@ impl Comparison {
         let call = |lists: &mut ReadLists, words: &mut [u64], answer: &mut [u64]| calls::read_body(order, kind, &given, place, lists, words, answer);
         let case = Case { generator: self.generator, call: "read body", kind };
         self.read(case, expected, lengths, call, || format!("kind {kind}, place {place}, {}", hex(&given)));
-        if expected.0 == PANE && order == BIG {
-            self.labelled(&given);
+        if expected.0 == PANE {
+            self.pane(case, data, &given, place, &expected);
         }
         if expected.0 == PANE && self.tally.cases % 16 == 0 {
-            self.typed(case, &given, place);
+            self.typed(case, &given, place, &expected);
         }
         expected
     }
@@ -184,8 +191,8 @@ impl Comparison {
         let kind = data.get(place..).and_then(|s| LETTERS.iter().position(|l| s.starts_with(&l[..]))).unwrap_or(5) as u64;
         let case = Case { generator: self.generator, call: "read section", kind };
         self.read(case, expected, lengths, call, || format!("place {place}, {}", hex(given)));
-        if expected.0 == PANE && order == BIG {
-            self.labelled(given);
+        if expected.0 == PANE {
+            self.pane(case, data, given, place + 8, &expected);
         }
         expected
     }
@@ -258,6 +265,28 @@ impl Comparison {
         self.tally.count(case, &expected);
     }
 
+    // What else is tried of the pane that was read last.
+    fn pane(&mut self, case: Case, data: &[u8], given: &[u8], body: usize, expected: &Outcome) {
+        if self.order == BIG {
+            self.labelled(given);
+        }
+        self.panes += 1;
+        if self.panes % JUDGED == 0 {
+            self.judge(case, data, body, expected);
+        }
+    }
+
+    // The reach by nnbfl itself: it reads the body in a buffer that goes to the reach and to every place that is sought, and in no shorter one.
+    fn judge(&mut self, case: Case, data: &[u8], body: usize, expected: &Outcome) {
+        let needed = reach::looked(case.kind, data, body).sought.max(expected.1[2] as usize);
+        let shortest = reach::shortest(case.kind, data, body);
+        if shortest != needed {
+            let what = format!("nnbfl reads the body in the first {shortest} bytes and in no fewer, where {needed} are needed");
+            self.tally.differs(case, expected, expected, &[what], &hex(data));
+        }
+        self.tally.judged_reach(case);
+    }
+
     // Label and caption of the pane that was read last, in the bytes that it was read from.
     fn labelled(&mut self, given: &[u8]) {
         if self.whole.kind() == TXT1 {
@@ -270,12 +299,13 @@ impl Comparison {
     }
 
     // The typed record of the crate, read and written back, against nnbfl's bytes in the order of the run.
-    fn typed(&mut self, case: Case, given: &[u8], place: usize) {
+    fn typed(&mut self, case: Case, given: &[u8], place: usize, read: &Outcome) {
         let order = if self.order == BIG { ByteOrder::Big } else { ByteOrder::Little };
-        let record = match self.buffer.read_body(order, Kind::CASES[case.kind as usize], given, place) {
-            Ok(body) => body.view.record(),
+        let (record, places) = match self.buffer.read_body(order, Kind::CASES[case.kind as usize], given, place) {
+            Ok(body) => (body.view.record(), [body.end as u64, 0, body.reach as u64]),
             Err(refusal) => panic!("a typed read was refused: {refusal}"),
         };
+        self.claim("typed places", case.kind, places == read.1, || format!("{places:?}: {}", hex(given)));
         self.scratch = oracle::written(&self.whole, false, place, std::mem::take(&mut self.scratch));
         let mut model = if self.order == BIG { self.mirrored(case.kind, false, place) } else { self.scratch.clone() };
         let end = model.len();

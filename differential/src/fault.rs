@@ -32,7 +32,7 @@ impl<'a> Left<'a> {
 type Change = fn(&mut Left) -> bool;
 
 /// The faults, by name.
-pub const FAULTS: [(&str, Change); 32] = [
+pub const FAULTS: [(&str, Change); 37] = [
     ("swapped-field", |l| pane(l) && swap(l.words, TRANSLATION, TRANSLATION + 1)),
     ("swapped-sizes", |l| pane(l) && swap(l.words, SCALE, SIZE)),
     ("swapped-colors", |l| kind(l, PIC1) && swap(l.words, PICTURE_COLORS + 4, PICTURE_COLORS + 8)),
@@ -49,6 +49,11 @@ pub const FAULTS: [(&str, Change); 32] = [
     ("words-after-kind", |l| kind(l, ALI1) && add(&mut l.words[RECORD_WORDS - 1])),
     ("changed-place", |l| *l.code == PANE && add(&mut l.answer[0])),
     ("changed-next", |l| *l.code == PANE && l.answer[1] != 0 && add(&mut l.answer[1])),
+    ("changed-reach", |l| pane(l) && add(&mut l.answer[2])),
+    ("reach-for-next", |l| pane(l) && swap(l.answer, 1, 2)),
+    ("reach-is-end", |l| pane(l) && copied(l.answer, 0, 2)),
+    ("nul-not-counted", |l| kind(l, TXT1) && label_last(l) && subtract(&mut l.answer[2], 1)),
+    ("reserve-not-counted", |l| kind(l, ALI1) && subtract(&mut l.answer[2], 2)),
     ("changed-number", |l| *l.code == REFUSED && add(&mut l.answer[0])),
     ("changed-figure-a", |l| *l.code == REFUSED && add(&mut l.answer[1])),
     ("changed-figure-b", |l| *l.code == REFUSED && add(&mut l.answer[2])),
@@ -139,12 +144,22 @@ fn swap<T: PartialEq>(list: &mut [T], a: usize, b: usize) -> bool {
     list[a] != list[b]
 }
 
+fn copied(words: &mut [u64], from: usize, to: usize) -> bool {
+    let word = words[from];
+    std::mem::replace(&mut words[to], word) != word
+}
+
 fn clear(words: &mut [u64], at: usize) -> bool {
     std::mem::take(&mut words[at]) != 0
 }
 
 fn add(word: &mut u64) -> bool {
     *word = word.wrapping_add(1);
+    true
+}
+
+fn subtract(word: &mut u64, less: u64) -> bool {
+    *word = word.wrapping_sub(less);
     true
 }
 
@@ -166,6 +181,11 @@ fn add8(list: &mut [u8], at: usize) -> bool {
 fn set(code: &mut u64, to: u64) -> bool {
     *code = to;
     true
+}
+
+// Whether the NUL of a label is the last byte that a read looked at.
+fn label_last(l: &Left) -> bool {
+    l.words[LABEL_PRESENT] == 1 && l.answer[2] == l.words[LABEL_PLACE] + l.words[LABEL_LENGTH] + 1
 }
 
 // A signalling NaN made quiet, as a move through a float register of another machine does.

@@ -7,6 +7,7 @@ pub mod oracle;
 pub mod outside;
 pub mod panes;
 pub mod random;
+pub mod reach;
 pub mod tally;
 mod unflatten;
 pub mod whole;

@@ -2,7 +2,9 @@
 //!
 //! nnbfl decides every field, list, place and byte, and refusals 4 and 5. It has no word for the others, which are taken from document 01's table:
 //! 1, 2, 3 and 8 before nnbfl is asked, 6 where it would read a per-character transform, 7 where it took a string lossily, 9 to 16 for records to write.
+//! Nor has it a word for the reach, which `reach` works out.
 use crate::panes::AnyPane;
+use crate::reach;
 use crate::whole::*;
 use bidlomeqa::layout::*;
 use nnbfl::bflyt::pane::LineTransformTable;
@@ -31,7 +33,7 @@ fn short_list(takes: [bool; 4], lengths: [usize; 4]) -> Option<Outcome> {
     (0..4).find(|i| takes[*i] && lengths[*i] < FULL[*i]).map(|i| refused(3, i + 1, FULL[i]))
 }
 
-fn number32(data: &[u8], at: usize) -> usize {
+pub fn number32(data: &[u8], at: usize) -> usize {
     u32::from_le_bytes(data[at..at + 4].try_into().unwrap()) as usize
 }
 
@@ -107,7 +109,7 @@ fn parsed(kind: u64, data: &[u8], body: usize, next: usize, to: &mut Whole) -> O
             if kind == TXT1 && to.is(LABEL_PRESENT) {
                 assert_eq!(&data[label..label + to.label.len()], &to.label[..]);
             }
-            (PANE, [c.pos as u64, next as u64, 0])
+            (PANE, [c.pos as u64, next as u64, reach::looked(kind, data, body).reach as u64])
         }
         Err(FormatError::UnexpectedEof { offset, requested_bytes }) => refused(4, offset, requested_bytes),
         Err(FormatError::MalformedSection { offset, .. }) => refused(5, offset, 0),

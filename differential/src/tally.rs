@@ -16,6 +16,8 @@ pub struct Tally {
     counts: HashMap<(Case, u64, u64), u64>,
     /// By generator: bytes that a big-endian run could not compare.
     unmirrored: BTreeMap<&'static str, u64>,
+    /// By call and kind: panes whose reach nnbfl judged.
+    reaches: BTreeMap<(&'static str, u64), u64>,
     pub cases: u64,
     /// Claims about several cases together, which are no cases of their own.
     pub claims: u64,
@@ -40,9 +42,28 @@ fn outcome_name(code: u64, number: u64) -> String {
     }
 }
 
+fn print_kinds() {
+    println!("  {:14} {:11} {}", "", "", KINDS.map(|k| format!("{k:>9}")).join(""));
+}
+
+// A number for each kind, where there is one.
+fn print_row(call: &str, outcome: &str, number: impl Fn(u64) -> Option<u64>) {
+    let cell = |kind: u64| number(kind).map_or("        .".into(), |n| format!("{n:9}"));
+    println!("  {call:14} {outcome:11} {}", [0, 1, 2, 3, 4, 5].map(cell).join(""));
+}
+
 impl Tally {
     pub fn new(quiet: bool) -> Self {
-        Self { counts: HashMap::new(), unmirrored: BTreeMap::new(), cases: 0, claims: 0, differences: 0, quiet, start: Instant::now() }
+        Self {
+            counts: HashMap::new(),
+            unmirrored: BTreeMap::new(),
+            reaches: BTreeMap::new(),
+            cases: 0,
+            claims: 0,
+            differences: 0,
+            quiet,
+            start: Instant::now(),
+        }
     }
 
     pub fn seconds(&self) -> f64 {
@@ -66,6 +87,16 @@ impl Tally {
     /// Counts bytes that have no mirror, which are no case.
     pub fn without_mirror(&mut self, generator: &'static str) {
         *self.unmirrored.entry(generator).or_insert(0) += 1;
+    }
+
+    /// Counts a case whose reach nnbfl judged.
+    pub fn judged_reach(&mut self, case: Case) {
+        *self.reaches.entry((case.call, case.kind)).or_insert(0) += 1;
+    }
+
+    /// How many reaches nnbfl judged of a call's reads of the kind.
+    pub fn reaches(&self, call: &'static str, kind: u64) -> u64 {
+        self.reaches.get(&(call, kind)).copied().unwrap_or(0)
     }
 
     /// Counts a difference and tells the first ones.
@@ -104,16 +135,25 @@ impl Tally {
         }
         self.report_unmirrored();
         println!("\ncases by call, outcome and kind");
-        println!("  {:14} {:11} {}", "", "", KINDS.map(|k| format!("{k:>9}")).join(""));
+        print_kinds();
         let rows = self.sums(|c, code, number| (c.call, code, number));
         let cells = self.sums(|c, code, number| (c.call, code, number, c.kind));
         for (call, code, number) in rows.into_keys() {
-            let cell = |kind: u64| cells.get(&(call, code, number, kind)).map_or("        .".into(), |n| format!("{n:9}"));
-            println!("  {call:14} {:11} {}", outcome_name(code, number), [0, 1, 2, 3, 4, 5].map(cell).join(""));
+            print_row(call, &outcome_name(code, number), |kind| cells.get(&(call, code, number, kind)).copied());
         }
+        self.report_reaches();
         println!("\n{} cases by nnbfl's own answer, the others by document 01's table", self.judged());
         println!("{} claims about several calls, as that a record came back as it was written or a strip ended where it must", self.claims);
         println!("{} cases in {:.0} s, {} differences", self.cases, self.seconds(), self.differences);
+    }
+
+    fn report_reaches(&self) {
+        let judged: u64 = self.reaches.values().sum();
+        println!("\nof these, panes whose reach nnbfl judged, by the shortest buffer in which it reads the body: {judged}");
+        print_kinds();
+        for call in ["read body", "read section"] {
+            print_row(call, "", |kind| self.reaches.get(&(call, kind)).copied());
+        }
     }
 
     fn report_unmirrored(&self) {

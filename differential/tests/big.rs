@@ -46,8 +46,8 @@ fn a_size_is_turned_and_letters_are_not() {
     let (little, big) = (section(b"ali1", [96, 0, 0, 0], 88), section(b"ali1", [0, 0, 0, 96], 88));
     assert_eq!(mirror::section(&little, 0), Some(big.clone()));
     assert_eq!(mirror::strip(&little), Some(big.clone()));
-    assert_eq!(read(LITTLE, &little).outcome, (PANE, [96, 96, 0]));
-    assert_eq!(read(BIG, &big).outcome, (PANE, [96, 96, 0]));
+    assert_eq!(read(LITTLE, &little).outcome, (PANE, [96, 96, 96]));
+    assert_eq!(read(BIG, &big).outcome, (PANE, [96, 96, 96]));
     assert_eq!(read(LITTLE, &big).outcome, (REFUSED, [8, 4, 0x6000_0000]));
 }
 
@@ -64,7 +64,7 @@ fn text_units_are_turned() {
     assert_eq!(mirror::section(&little_text(), 0), Some(big_text()));
     for (order, data) in [(LITTLE, little_text()), (BIG, big_text())] {
         let read = read(order, &data);
-        assert_eq!(read.outcome, (PANE, [168, 172, 0]));
+        assert_eq!(read.outcome, (PANE, [168, 172, 172]));
         assert_eq!((read.words[TEXT_PRESENT], read.words[TEXT_LENGTH], &read.units[..2]), (1, 4, &[0xD83D, 0xDE00][..]));
     }
 }

@@ -22,7 +22,7 @@ fn an_output_beyond_the_limit_is_refused() {
         let mut c = Comparison::new(order, true, Fault::none());
         // One case in sixteen is written back by the Rust crate.
         for _ in 0..64 {
-            assert_eq!(c.body(TXT1, &data, body), (PANE, [body as u64 + 160, 0, 0]));
+            assert_eq!(c.body(TXT1, &data, body), (PANE, [body as u64 + 160, 0, LIMIT as u64]));
         }
         assert!(c.tally.of("typed body", REFUSED, 1) > 0 && c.tally.differences == 0);
     }

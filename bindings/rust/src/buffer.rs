@@ -33,15 +33,16 @@ pub enum Section<'a> {
     End,
     /// A section of another kind; the next one's place.
     Passed { next: usize },
-    /// A pane; the place after its body, and the next section's place.
-    Pane { view: View<'a>, end: usize, next: usize },
+    /// A pane; the place after its body, the next section's place, and how far the read looked ([`View::reach`]).
+    Pane { view: View<'a>, end: usize, next: usize, reach: usize },
 }
 
-/// What a body read gives: the pane, and the place after it.
+/// What a body read gives: the pane, the place after it, and how far the read looked ([`View::reach`]).
 #[derive(Debug, Clone, Copy)]
 pub struct Body<'a> {
     pub view: View<'a>,
     pub end: usize,
+    pub reach: usize,
 }
 
 /// A caption: a part of the strip, or of what was lent.
@@ -96,8 +97,8 @@ impl Buffer {
         }
     }
 
-    fn view<'a>(&'a self, strip: &'a [u8]) -> View<'a> {
-        View { words: &self.words, quads: &self.quads, units: &self.units, lines: &self.lines, frames: &self.frames, strip }
+    fn view<'a>(&'a self, strip: &'a [u8], reach: usize) -> View<'a> {
+        View { words: &self.words, quads: &self.quads, units: &self.units, lines: &self.lines, frames: &self.frames, strip, reach }
     }
 
     /// Reads the section at `place` of the strip, whose numbers stand in the byte order.
@@ -107,7 +108,10 @@ impl Buffer {
         match calls::read_section(order.number(), strip, place, &mut lists, &mut self.words, &mut answer) {
             END => Ok(Section::End),
             PASSED => Ok(Section::Passed { next: answer[0] as usize }),
-            PANE => Ok(Section::Pane { view: self.view(strip), end: answer[0] as usize, next: answer[1] as usize }),
+            PANE => {
+                let [end, next, reach] = answer.map(|word| word as usize);
+                Ok(Section::Pane { view: self.view(strip, reach), end, next, reach })
+            }
             REFUSED => Err(refusal(answer)),
             code => disagree(code, answer),
         }
@@ -118,7 +122,10 @@ impl Buffer {
         let mut answer = Answer::default();
         let mut lists = ReadLists { quads: &mut self.quads, units: &mut self.units, lines: &mut self.lines, frames: &mut self.frames };
         match calls::read_body(order.number(), kind as u64, data, place, &mut lists, &mut self.words, &mut answer) {
-            PANE => Ok(Body { view: self.view(data), end: answer[0] as usize }),
+            PANE => {
+                let [end, _, reach] = answer.map(|word| word as usize);
+                Ok(Body { view: self.view(data, reach), end, reach })
+            }
             REFUSED => Err(refusal(answer)),
             code => disagree(code, answer),
         }

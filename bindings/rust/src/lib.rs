@@ -1,8 +1,9 @@
 //! Safe calls of the proved reader and writer of BFLYT panes: pan1, pic1, txt1, wnd1 and ali1.
 //!
 //! [`Buffer`] holds the lists and the record that the calls lend to the library: one buffer reads a whole page and allocates nothing for a pane.
-//! [`View`] is a pane in the buffer; [`View::record`] makes a [`Record`] with lists of its own. [`read_page`] and [`write_page`] do a whole page, its
-//! sections of other kinds included; [`read_strip`] and [`write_strip`] the panes alone. Each call is told the [`ByteOrder`] of the bytes; nothing is guessed.
+//! [`View`] is a pane in the buffer; [`View::record`] makes a [`Record`] with lists of its own, and [`View::reach`] tells how much of a page the pane needs.
+//! [`read_page`] and [`write_page`] do a whole page, its sections of other kinds included; [`read_strip`] and [`write_strip`] the panes alone. Each call is told
+//! the [`ByteOrder`] of the bytes; nothing is guessed.
 //!
 //! ```
 //! use bidlomeqa::{read_strip, write_strip, ByteOrder, Record};

@@ -187,7 +187,7 @@ fn sections_of_other_kinds_are_passed() {
     strip.extend(write_strip(Little, &[alignment()]).unwrap());
     let mut buffer = Buffer::new();
     assert!(matches!(buffer.read_section(Little, &strip, 0), Ok(Section::Passed { next: 12 })));
-    assert!(matches!(buffer.read_section(Little, &strip, 12), Ok(Section::Pane { end: 108, next: 108, .. })));
+    assert!(matches!(buffer.read_section(Little, &strip, 12), Ok(Section::Pane { end: 108, next: 108, reach: 108, .. })));
     assert!(matches!(buffer.read_section(Little, &strip, 108), Ok(Section::End)));
     assert_eq!(read_strip(Little, &strip).unwrap(), [alignment()]);
 }
@@ -211,7 +211,7 @@ fn a_body_is_read_by_its_kind() {
     let mut buffer = Buffer::new();
     let end = buffer.write_body(Little, &picture(), &mut out, 9).unwrap();
     let body = buffer.read_body(Little, Kind::Pic1, &out, 9).unwrap();
-    assert_eq!((body.end, body.view.record()), (end, picture()));
+    assert_eq!((body.end, body.reach, body.view.record()), (end, end, picture()));
 }
 
 #[test]

@@ -118,7 +118,7 @@ fn a_read_keeps_the_words_after_its_kind() {
     let (mut record, mut answer) = ([9; RECORD_WORDS], Answer::default());
     assert_eq!(calls::read_body(LITTLE, 0, &[0; 84], 8, &mut lists, &mut record, &mut answer), PANE);
     assert_eq!((&record[..OWN], &record[OWN..]), (&[0; OWN][..], &[9; RECORD_WORDS - OWN][..]));
-    assert_eq!(answer, [84, 0, 0]);
+    assert_eq!(answer, [84, 0, 84]);
     assert_eq!(calls::read_body(LITTLE, 5, &[0; 84], 8, &mut lists, &mut record, &mut answer), BAD_WORD);
 }
 
@@ -150,7 +150,8 @@ fn the_c_example_runs() {
     assert!(compiled.success());
     let output = Command::new(&program).output().unwrap();
     assert!(output.status.success());
-    let expected = "read: 2, body ends at 96, next section at 96\nwritten: 3, ends at 96\nat the end: 0\ncut short: 4, number 8, figures 4 96\n";
+    let expected =
+        "read: 2, body ends at 96, next section at 96, reach 96\nwritten: 3, ends at 96\nat the end: 0\ncut short: 4, number 8, figures 4 96\n";
     assert_eq!(String::from_utf8(output.stdout).unwrap(), expected);
 }
 
@@ -163,7 +164,7 @@ fn the_caller_names_the_byte_order() {
         (calls::read_section(order, data, 0, &mut lists, &mut [0; RECORD_WORDS], &mut answer), answer)
     };
     let strip = [&b"ali1\0\0\0\x60"[..], &[0; 88]].concat();
-    assert_eq!(read(BIG, &strip), (PANE, [96, 96, 0]));
+    assert_eq!(read(BIG, &strip), (PANE, [96, 96, 96]));
     assert_eq!(read(LITTLE, &strip), (REFUSED, [8, 4, 0x6000_0000]));
     assert_eq!(read(BIG, b"ali1\x08\0\0\0"), (REFUSED, [8, 4, 0x0800_0000]));
     assert_eq!(read(LITTLE, b"ali1\x08\0\0\0"), (REFUSED, [4, 8, 1]));

@@ -10,6 +10,7 @@ use Rattle.core.specs.declared.cursor.ByteOrder.{ByteOrder}
 use Rattle.core.specs.declared.cursor.Cursor.{Cursor}
 use Rattle.core.specs.declared.cursor.Place.{Place}
 use Rattle.core.specs.declared.cursor.Place.the-variants.{At, Refused}
+use Rattle.core_checks.specs.declared.checks.Parsed.{Parsed}
 use Rattle.core_checks.specs.declared.checks.Parsed.the-variants as Parseds
 use Rattle.pane_read.specs.Pane.{paneTaken}
 use Rattle.pane_checks.specs.Checks.{textsChecked}
@@ -28,10 +29,10 @@ alignment-stays order s why = refl
 
 module _ (order : ByteOrder) (s : List ℕ) (p : Place) (body : ℕ) (b : PaneTaken) (a : AlignmentTaken) (q : Place)
     (e : b ≡ paneTaken order s p) (f : a ≡ alignmentTaken order s (b .then)) (g : q ≡ textsChecked (a .then) (b .pane) body) where
-  pub read-got : (c : Cursor) → q ≡ At c
-      → _≡_ {A = AlignmentParsed} (record { answer = Parseds.Read (c .pos); base = b .pane; alignment = a .alignment }) (alignmentRead order s p body)
-  unfolding alignmentRead parsedOf unlessRefused
-  read-got c h = rw (← e, ← f, ← g, h)
+  pub read-got : (c : Cursor) → q ≡ At c → (answer : Parsed) → answer ≡ parsedOf (At c)
+      → _≡_ {A = AlignmentParsed} (record { answer = answer; base = b .pane; alignment = a .alignment }) (alignmentRead order s p body)
+  unfolding alignmentRead unlessRefused
+  read-got c h answer k = rw (← e, ← f, ← g, h, k)
 
   pub read-refused : (why : Refusal) → q ≡ Refused why → (r : AlignmentParsed) → Blank why r → r ≡ alignmentRead order s p body
   unfolding alignmentRead parsedOf unlessRefused

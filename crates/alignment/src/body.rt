@@ -48,9 +48,9 @@ pub fn read(order: ByteOrder, data: &[u8], p: Place, place: usize) -> AlignmentP
     let then = texts_checked(p2, base, place);
     match then {
         Place::At(c) => {
-            let end = c.pos;
+            let answer = checks::read_to(c);
             AlignmentParsed {
-                answer: Parsed::Read { end },
+                answer,
                 base,
                 alignment,
             }

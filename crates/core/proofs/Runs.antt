@@ -16,6 +16,7 @@ use Rattle.core.specs.declared.cursor.Cursor.{Cursor}
 use Rattle.core.specs.declared.cursor.Place.{Place}
 use Rattle.core.specs.declared.cursor.Place.the-variants.{At, Refused}
 use Rattle.core.specs.declared.text.CountTaken.{CountTaken}
+use Rattle.core.proofs.Cursors.{moved-here}
 
 -- ---- checks
 
@@ -58,6 +59,14 @@ module _ (s : List ℕ) (p : Place) (to : ℕ) where
   pub seek-stays : (first : Refusal) → p ≡ Refused first → Refused first ≡ sought s p to
   unfolding sought
   seek-stays first e = rw e
+
+-- within the bytes
+pub seek-to : (s : List ℕ) (d : Cursor) (to at : ℕ) → to ≡ at → at ≤ length s → sought s (At d) to ≡ At (moved d at)
+seek-to s d to at e h = rw e (sym (seek-got s (At d) at d refl h))
+
+-- to where the run stands
+pub seek-here : (s : List ℕ) (d : Cursor) (to : ℕ) → to ≡ d .pos → d .pos ≤ length s → sought s (At d) to ≡ At d
+seek-here s d to e h = seek-to s d to (d .pos) e h ∙ ap At (moved-here d)
 
 -- ---- numbers
 

@@ -1,5 +1,5 @@
 -- A run of steps over bytes: each starts where the one before it ended, and does nothing once one was refused.
-use Prim.Native.Nat.{ℕ, _+_, _-_}
+use Prim.Native.Nat.{ℕ, _+_, _-_, max}
 use mathlib.Core.Bool.{Bool, true, false, cond}
 use mathlib.Core.List.{List, [], _∷_, _++_}
 use lib.ListN.{length, drop, replicate}
@@ -21,16 +21,17 @@ use Rattle.core.specs.declared.text.FixedString8.{FixedString8}
 use Rattle.core.specs.declared.text.String24Taken.{String24Taken}
 use Rattle.core.specs.declared.text.String8Taken.{String8Taken}
 
--- ---- where a cursor begins, and the only two ways in which it moves: width bytes were read; it was set to a place
+-- ---- where a cursor begins, and the only two ways in which it moves: width bytes were read; it was set to a place.
+-- Its reach is the first place past all bytes that were read: a read of no bytes and a move leave it as it is.
 
 unfoldable pub start : ℕ → Cursor
-start place = record { pos = place }
+start place = record { pos = place; reach = place }
 
 unfoldable pub advanced : Cursor → ℕ → Cursor
-advanced c width = record { pos = c .pos + width }
+advanced c width = cond (eqb width 0) c (record { pos = c .pos + width; reach = max (c .reach) (c .pos + width) })
 
 unfoldable pub moved : Cursor → ℕ → Cursor
-moved c to = record { pos = to }
+moved c to = record { pos = to; reach = c .reach }
 
 -- ---- steps that read nothing
 

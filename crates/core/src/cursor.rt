@@ -14,9 +14,10 @@ pub enum ByteOrder {
     Big,
 }
 
-// A place among the bytes.
+// A place among the bytes, and how far the run looked: the first place past all bytes that it read.
 pub struct Cursor {
     pub pos: usize,
+    pub reach: usize,
 }
 
 // Where a run of steps stands: at a cursor, or refused. A refused run does nothing more.
@@ -46,11 +47,14 @@ pub struct I16Taken {
 }
 
 impl Cursor {
-    // Where a run begins.
+    // Where a run begins, which has read nothing.
     pub fn start(place: usize) -> Cursor
         ensures { λ r. ⌜ r ≡ start place ⌝ }
     {
-        Cursor { pos: place }
+        Cursor {
+            pos: place,
+            reach: place,
+        }
     }
 
     // After width bytes were read.
@@ -58,16 +62,25 @@ impl Cursor {
         requires { ⌜ self .pos + width < 2 ^ 64 ⌝ }
         ensures { λ r. ⌜ r ≡ advanced self width ⌝ }
     {
-        Cursor {
-            pos: self.pos + width,
+        if width == 0 {
+            return self;
         }
+        let pos = self.pos + width;
+        let reach = self.reach;
+        if reach < pos {
+            return Cursor { pos, reach: pos };
+        }
+        Cursor { pos, reach }
     }
 
-    // Set to a place.
+    // Set to a place, which reads nothing.
     pub fn moved(self, to: usize) -> Cursor
         ensures { λ r. ⌜ r ≡ moved self to ⌝ }
     {
-        Cursor { pos: to }
+        Cursor {
+            pos: to,
+            reach: self.reach,
+        }
     }
 }
 

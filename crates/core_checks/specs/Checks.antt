@@ -47,9 +47,9 @@ endChecked p end n = stopIf p (ltb n end) (OutputEnd end n)
 
 -- ---- what a run answers
 
--- a body read: the place after the body
+-- a body read: the place after the body, and the first place past all bytes that it read
 unfoldable pub parsedOf : Place → Parsed
-parsedOf (At c) = Parseds.Read (c .pos)
+parsedOf (At c) = Parseds.Read (c .pos) (c .reach)
 parsedOf (Refused why) = Parseds.Refused why
 
 -- the value read, or the blank one where the run was refused

@@ -5,11 +5,11 @@ use core::cursor::Place;
 use core::error::Refusal;
 ghost use mathlib.Core.Path.{_≡_};
 ghost use Prim.Native.Nat.{_+_, _^_, _≤_, _<_};
-ghost use Rattle.core_checks.specs.Checks.{lengthChecked, bodyChecked, sectionChecked, bodyStart, sectionStart, listChecked, countChecked, endChecked};
+ghost use Rattle.core_checks.specs.Checks.{lengthChecked, bodyChecked, sectionChecked, bodyStart, sectionStart, listChecked, countChecked, endChecked, parsedOf};
 
-// What a body read answers: the place after the body, or why not.
+// What a body read answers: the place after the body and how far it looked, or why not.
 pub enum Parsed {
-    Read { end: usize },
+    Read { end: usize, reach: usize },
     Refused(Refusal),
 }
 
@@ -17,6 +17,15 @@ pub enum Parsed {
 pub enum Written {
     End(usize),
     Refused(Refusal),
+}
+
+// A body read that was accepted, and ends at a cursor.
+pub fn read_to(c: Cursor) -> Parsed
+    ensures { λ r. ⌜ r ≡ parsedOf (Place.At c) ⌝ }
+{
+    let end = c.pos;
+    let reach = c.reach;
+    Parsed::Read { end, reach }
 }
 
 // 1: a buffer, or a label to write, that is too long.

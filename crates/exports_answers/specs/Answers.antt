@@ -51,7 +51,7 @@ refusedAnswer why = answer 4 (numberOf why) (figureA why) (figureB why)
 abbrev pub sectionAnswer : Section → Answer
 sectionAnswer Sections.End = answer 0 0 0 0
 sectionAnswer (Sections.Passed next) = answer 1 next 0 0
-sectionAnswer (Sections.Pane end next) = answer 2 end next 0
+sectionAnswer (Sections.Pane end next reach) = answer 2 end next reach
 sectionAnswer (Sections.Refused why) = refusedAnswer why
 
 -- WRITTEN

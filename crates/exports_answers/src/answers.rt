@@ -97,11 +97,11 @@ pub fn section(s: Section) -> Answer
             b: 0,
             c: 0,
         },
-        Section::Pane { end, next } => Answer {
+        Section::Pane { end, next, reach } => Answer {
             code: layout::PANE,
             a: end as u64,
             b: next as u64,
-            c: 0,
+            c: reach as u64,
         },
         Section::Refused(why) => refused(why),
     }

@@ -12,7 +12,7 @@ use Rattle.core.specs.declared.cursor.Place.the-variants as Places
 use Rattle.core_checks.specs.declared.checks.Parsed.{Parsed}
 use Rattle.core_checks.specs.declared.checks.Parsed.the-variants as Parseds
 use Rattle.strip_records.specs.Whole.{Lists, blankRecord}
-use Rattle.strip_kinds.specs.Body.{bodyRead}
+use Rattle.strip_kinds.specs.Body.{bodyRead, bodyParsed}
 use Rattle.strip_read.specs.Read.{refusedWith, endedWith, passedWith, finished, readBody, byKind, orRefused, readAt, readSection}
 use Rattle.strip_records.specs.declared.kind.Kind.{Kind}
 use Rattle.strip_records.specs.declared.kind.Kind.the-variants.{Pan1, Pic1, Txt1, Wnd1, Ali1}
@@ -23,7 +23,6 @@ use Rattle.strip_read.specs.declared.read.SectionRead.{SectionRead}
 use Rattle.flat_records.specs.Records.{recordWords, recordOf}
 use Rattle.flat_records.specs.Typed.{TypedWords, OthersBlank}
 use Rattle.flat_records.proofs.Again.{handed-back}
-use Rattle.exports_read.specs.Outcomes.{bodyParsed}
 
 -- ---- a read leaves what the other kinds have blank
 
@@ -44,7 +43,7 @@ body-others order Ali1 s p body = (refl, refl, refl)
 
 finished-others : (a : Parsed) (next : ℕ) (r : Record) → Others r → Others (finished a next r .«record»)
 unfolding finished refusedWith
-finished-others (Parseds.Read end) next r h = h
+finished-others (Parseds.Read end reach) next r h = h
 finished-others (Parseds.Refused why) next r h = blank-others
 
 kind-others : (order : ByteOrder) (k : KindFound) (s : List ℕ) (p : Place) (body next : ℕ) → Others (byKind order k s p body next .«record»)

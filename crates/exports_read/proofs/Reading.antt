@@ -13,7 +13,7 @@ use Rattle.core.specs.declared.error.Refusal.{Refusal}
 use Rattle.core_checks.specs.declared.checks.Parsed.{Parsed}
 use Rattle.core_checks.specs.declared.checks.Parsed.the-variants as Parseds
 use Rattle.strip_records.specs.Whole.{Lists}
-use Rattle.strip_kinds.specs.Body.{bodyLists}
+use Rattle.strip_kinds.specs.Body.{bodyLists, listsParsed}
 use Rattle.strip_read.specs.Read.{refusedWith, endedWith, passedWith, finished, readBody, readSection, listsAfter}
 use Rattle.strip_records.specs.declared.kind.Kind.{Kind}
 use Rattle.strip_records.specs.declared.record.Record.{Record}
@@ -21,17 +21,17 @@ use Rattle.strip_header.specs.declared.Section.the-variants as Sections
 use Rattle.strip_read.specs.declared.read.SectionRead.{SectionRead}
 use Rattle.flat_records.specs.Records.{kindOf, recordWords}
 use Rattle.exports_answers.specs.Answers.{shortRecord, badWord, badOrder, orderOf, ofOrder, refusedAnswer, sectionAnswer}
-use Rattle.exports_read.specs.Outcomes.{ReadOutcome, readOutcome, delivered, sectionOutcome, listsParsed, bodyFinished, bodyDelivered, bodyOutcome}
+use Rattle.exports_read.specs.Outcomes.{ReadOutcome, readOutcome, delivered, sectionOutcome, bodyFinished, bodyDelivered, bodyOutcome}
 use Rattle.exports_answers.specs.declared.answers.Answer.{Answer}
 use Rattle.exports_answers.specs.declared.answers.OrderFound.the-variants.{Is, Other}
 
 -- ---- a body, as a section with its next place
 
 module _ (x : Parsed) (next : ℕ) (r : Record) (w : List ℕ) (a : Answer) where
-  pub deliver-read : (end : ℕ) (w′ : List ℕ) → x ≡ Parseds.Read end → a ≡ sectionAnswer (Sections.Pane end next) → w′ ≡ splice w 0 (recordWords r)
+  pub deliver-read : (end reach : ℕ) (w′ : List ℕ) → x ≡ Parseds.Read end reach → a ≡ sectionAnswer (Sections.Pane end next reach) → w′ ≡ splice w 0 (recordWords r)
       → (l : Lists) → readOutcome a w′ l ≡ delivered (finished x next r) w l
   unfolding delivered finished
-  deliver-read end w′ ex ea ew l = rw (ex, ea, ew)
+  deliver-read end reach w′ ex ea ew l = rw (ex, ea, ew)
 
   pub deliver-refused : (why : Refusal) → x ≡ Parseds.Refused why → a ≡ refusedAnswer why → (l : Lists) → readOutcome a w l ≡ delivered (finished x next r) w l
   unfolding delivered finished refusedWith

@@ -14,7 +14,8 @@ ghost use mathlib.Core.Path.{_≡_};
 ghost use Rattle.picture.specs.Body.{quadsParsed};
 ghost use Rattle.window.specs.Body.{parsedQuads, parsedFrames};
 ghost use Rattle.strip_records.specs.Whole.{Lists, lists, noLists};
-ghost use Rattle.exports_read.specs.Outcomes.{readOutcome, delivered, unitsParsed, linesParsed, bodyFinished, bodyDelivered};
+ghost use Rattle.strip_kinds.specs.Body.{unitsParsed, linesParsed};
+ghost use Rattle.exports_read.specs.Outcomes.{readOutcome, delivered, bodyFinished, bodyDelivered};
 
 fn parse_pan1(order: ByteOrder, data: &[u8], place: usize, words: &mut [u64]) -> Answer
     requires { ⌜ 116 ≤ length (now words) ⌝ }

@@ -21,9 +21,9 @@ pub(crate) fn deliver_pan1(words: &mut [u64], x: Parsed, next: usize, base: Pane
     ensures { λ a. ⌜ ((l : Lists) → readOutcome a (now (words .exit)) l ≡ delivered (finished x next (pan1 base)) (now (words .entry)) l) ⌝ }
 {
     match x {
-        Parsed::Read { end } => {
+        Parsed::Read { end, reach } => {
             records::put_pan1(words, base);
-            answers::section(Section::Pane { end, next })
+            answers::section(Section::Pane { end, next, reach })
         }
         Parsed::Refused(why) => answers::refused(why),
     }
@@ -40,9 +40,9 @@ pub(crate) fn deliver_pic1(
     ensures { λ a. ⌜ ((l : Lists) → readOutcome a (now (words .exit)) l ≡ delivered (finished x next (pic1 base own)) (now (words .entry)) l) ⌝ }
 {
     match x {
-        Parsed::Read { end } => {
+        Parsed::Read { end, reach } => {
             records::put_pic1(words, base, own);
-            answers::section(Section::Pane { end, next })
+            answers::section(Section::Pane { end, next, reach })
         }
         Parsed::Refused(why) => answers::refused(why),
     }
@@ -59,9 +59,9 @@ pub(crate) fn deliver_txt1(
     ensures { λ a. ⌜ ((l : Lists) → readOutcome a (now (words .exit)) l ≡ delivered (finished x next (txt1 base own)) (now (words .entry)) l) ⌝ }
 {
     match x {
-        Parsed::Read { end } => {
+        Parsed::Read { end, reach } => {
             records::put_txt1(words, base, own);
-            answers::section(Section::Pane { end, next })
+            answers::section(Section::Pane { end, next, reach })
         }
         Parsed::Refused(why) => answers::refused(why),
     }
@@ -78,9 +78,9 @@ pub(crate) fn deliver_wnd1(
     ensures { λ a. ⌜ ((l : Lists) → readOutcome a (now (words .exit)) l ≡ delivered (finished x next (wnd1 base own)) (now (words .entry)) l) ⌝ }
 {
     match x {
-        Parsed::Read { end } => {
+        Parsed::Read { end, reach } => {
             records::put_wnd1(words, base, own);
-            answers::section(Section::Pane { end, next })
+            answers::section(Section::Pane { end, next, reach })
         }
         Parsed::Refused(why) => answers::refused(why),
     }
@@ -97,9 +97,9 @@ pub(crate) fn deliver_ali1(
     ensures { λ a. ⌜ ((l : Lists) → readOutcome a (now (words .exit)) l ≡ delivered (finished x next (ali1 base own)) (now (words .entry)) l) ⌝ }
 {
     match x {
-        Parsed::Read { end } => {
+        Parsed::Read { end, reach } => {
             records::put_ali1(words, base, own);
-            answers::section(Section::Pane { end, next })
+            answers::section(Section::Pane { end, next, reach })
         }
         Parsed::Refused(why) => answers::refused(why),
     }

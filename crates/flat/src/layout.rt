@@ -204,7 +204,8 @@ pub const END: u64 = 0;
 // A section of another kind. The next section's place, 0, 0.
 pub const PASSED: u64 = 1;
 
-// A pane, which the record's words hold. The place after the body, the next section's place (0 of a body call), 0.
+// A pane, which the record's words hold. The place after the body, the next section's place (0 of a body call), the reach:
+// the first place past all bytes that the read of the body looked at.
 pub const PANE: u64 = 2;
 
 // Written. The end place, 0, 0.

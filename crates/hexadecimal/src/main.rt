@@ -31,7 +31,11 @@ fn print_answer(answer: Section) {
             print(b"pass");
             print_figure(next);
         }
-        Section::Pane { end, next } => {
+        Section::Pane {
+            end,
+            next,
+            reach: _,
+        } => {
             print(b"pane");
             print_figure(end);
             print_figure(next);

@@ -46,17 +46,19 @@ fn record_of(kind: Kind, reserve0: u8) -> Record {
 
 // ---- reading
 
-fn print_pane(end: usize, next: usize, frames: u8) {
+fn print_pane(end: usize, next: usize, reach: usize, frames: u8) {
     print(b", read: pane");
     print_figure(end);
     print_figure(next);
+    print(b", reach");
+    print_figure(reach);
     print(b", frames");
     print_figure(frames as usize);
 }
 
 fn print_read(answer: Section, frames: u8) {
     match answer {
-        Section::Pane { end, next } => print_pane(end, next, frames),
+        Section::Pane { end, next, reach } => print_pane(end, next, reach, frames),
         Section::Passed { next: _ } => print(b", passed"),
         Section::End => print(b", end"),
         Section::Refused(_) => print(b", refused"),

@@ -11,6 +11,7 @@ use Rattle.core.specs.declared.cursor.ByteOrder.{ByteOrder}
 use Rattle.core.specs.declared.cursor.Cursor.{Cursor}
 use Rattle.core.specs.declared.cursor.Place.{Place}
 use Rattle.core.specs.declared.cursor.Place.the-variants.{At, Refused}
+use Rattle.core_checks.specs.declared.checks.Parsed.{Parsed}
 use Rattle.core_checks.specs.declared.checks.Parsed.the-variants as Parseds
 use Rattle.core_checks.proofs.Checked.{body-started}
 use Rattle.pane_read.specs.Pane.{paneTaken, blankPane}
@@ -31,9 +32,10 @@ unfolding textsChecked stopIf
 texts-stay why b body = refl
 
 module _ (order : ByteOrder) (s : List ℕ) (p : Place) (body : ℕ) (t : PaneTaken) (q : Place) (e : t ≡ paneTaken order s p) (f : q ≡ textsChecked (t .then) (t .pane) body) where
-  pub read-got : (c : Cursor) → q ≡ At c → _≡_ {A = PaneParsed} (record { answer = Parseds.Read (c .pos); pane = t .pane }) (paneRead order s p body)
-  unfolding paneRead parsedOf unlessRefused
-  read-got c h = rw (← e, ← f, h)
+  pub read-got : (c : Cursor) → q ≡ At c → (answer : Parsed) → answer ≡ parsedOf (At c)
+      → _≡_ {A = PaneParsed} (record { answer = answer; pane = t .pane }) (paneRead order s p body)
+  unfolding paneRead unlessRefused
+  read-got c h answer a = rw (← e, ← f, h, a)
 
   pub read-refused : (why : Refusal) → q ≡ Refused why → (r : PaneParsed) → r .answer ≡ Parseds.Refused why → r .pane ≡ blankPane → r ≡ paneRead order s p body
   unfolding paneRead parsedOf unlessRefused

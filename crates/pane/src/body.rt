@@ -41,11 +41,8 @@ pub fn read(order: ByteOrder, data: &[u8], p: Place, place: usize) -> PaneParsed
     let then = texts_checked(q, pane, place);
     match then {
         Place::At(c) => {
-            let end = c.pos;
-            PaneParsed {
-                answer: Parsed::Read { end },
-                pane,
-            }
+            let answer = checks::read_to(c);
+            PaneParsed { answer, pane }
         }
         Place::Refused(why) => refused(why),
     }

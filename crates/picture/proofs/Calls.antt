@@ -11,6 +11,7 @@ use Rattle.core.specs.declared.cursor.ByteOrder.{ByteOrder}
 use Rattle.core.specs.declared.cursor.Cursor.{Cursor}
 use Rattle.core.specs.declared.cursor.Place.{Place}
 use Rattle.core.specs.declared.cursor.Place.the-variants.{At, Refused}
+use Rattle.core_checks.specs.declared.checks.Parsed.{Parsed}
 use Rattle.core_checks.specs.declared.checks.Parsed.the-variants as Parseds
 use Rattle.core_checks.proofs.Checked.{list-cleared}
 use Rattle.pane_read.specs.Pane.{paneTaken}
@@ -33,11 +34,11 @@ module _ (order : ByteOrder) (s : List ℕ) (p : Place) (body : ℕ) (b : PaneTa
       let k : x .then ≡ At c = texts-cleared _ (b .pane) body c (sym g ∙ h) in
       subst (λ (t : PictureTaken). Measured s t n) (sym f) (came-through order s (b .then) c n (rw f at k) room)
 
-  pub read-got : (c : Cursor) → q ≡ At c → (old new : List ℕ) → new ≡ over (quadsOf order s x) old
-      → (_≡_ {A = PictureParsed} (record { answer = Parseds.Read (c .pos); base = b .pane; picture = x .picture }) (pictureRead order s p body))
+  pub read-got : (c : Cursor) → q ≡ At c → (answer : Parsed) → answer ≡ parsedOf (At c) → (old new : List ℕ) → new ≡ over (quadsOf order s x) old
+      → (_≡_ {A = PictureParsed} (record { answer = answer; base = b .pane; picture = x .picture }) (pictureRead order s p body))
       × (new ≡ quadsRead order s p body old)
-  unfolding pictureRead quadsRead parsedOf unlessRefused
-  read-got c h old new k = rw (← e, ← f, ← g, h) (refl, k)
+  unfolding pictureRead quadsRead unlessRefused
+  read-got c h answer a old new k = rw (← e, ← f, ← g, h, a) (refl, k)
 
   pub read-refused : (why : Refusal) → q ≡ Refused why → (r : PictureParsed) → Blank why r → (old : List ℕ)
       → (r ≡ pictureRead order s p body) × (old ≡ quadsRead order s p body old)

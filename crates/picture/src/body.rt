@@ -57,9 +57,9 @@ pub fn read(
     match then {
         Place::At(c) => {
             picture_fields::fill_picture(order, data, own, quads);
-            let end = c.pos;
+            let answer = checks::read_to(c);
             PictureParsed {
-                answer: Parsed::Read { end },
+                answer,
                 base,
                 picture,
             }

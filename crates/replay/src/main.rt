@@ -185,7 +185,11 @@ fn answer(data: &[u8]) {
             print(b"pass");
             print_figure(next);
         }
-        Section::Pane { end, next } => {
+        Section::Pane {
+            end,
+            next,
+            reach: _,
+        } => {
             print(b"pane");
             print_figure(end);
             print_figure(next);

@@ -15,7 +15,7 @@ use Rattle.core.specs.declared.cursor.ByteOrder.{ByteOrder}
 use Rattle.core.specs.declared.cursor.ByteOrder.the-variants.{Little}
 use Rattle.core.specs.declared.cursor.Place.the-variants.{At}
 use Rattle.core.proofs.Numbers.{length-bytes}
-use Rattle.core.proofs.Cursors.{pos-start, pos-advanced, advanced-zero}
+use Rattle.core.proofs.Cursors.{pos-start, pos-advanced, advanced-zero, reach-start, reach-level}
 use Rattle.core_checks.proofs.Checked.{SectionOk, section-passes, list-passes}
 use Rattle.core.proofs.Back.{Holds, holds-left, holds-fits, cut, number-at}
 use Rattle.pane.proofs.Cleared.{Good, sound}
@@ -40,9 +40,10 @@ use Rattle.strip_records.specs.declared.kind.KindFound.the-variants.{Is}
 use Rattle.strip_records.specs.declared.record.Record.{Record}
 use Rattle.strip_header.specs.declared.Header.{Header}
 use Rattle.strip_read.specs.declared.read.SectionRead.{SectionRead}
+use Rattle.strip_header.specs.declared.Section.{Section}
 use Rattle.strip_header.specs.declared.Section.the-variants as Sections
 use Rattle.strip_write.proofs.Steps.{letters-bytes, size-parts}
-use Rattle.strip.proofs.BackKinds.{GoodWhole, BodyBack, readRecord, body-back}
+use Rattle.strip.proofs.BackKinds.{GoodWhole, BodyBack, bodyEnd, bodyReach, readRecord, body-back}
 
 -- ---- lengths
 
@@ -144,10 +145,18 @@ header-back {s} order p k z a b d e h₁ h₂ =
 abbrev pub readAs : ℕ → Whole → Record
 readAs p w = readRecord (w .pane .kind) (advanced (start p) 8) (p + 8) w
 
+-- the answer: the end and the reach of its body, and the end of its padding
+abbrev pub answerOf : ℕ → Whole → Section
+answerOf p w = Sections.Pane (bodyEnd (w .pane .kind) (p + 8) w) (sectionEnd p w) (bodyReach (w .pane .kind) (p + 8) w)
+
+-- it looks at no byte past its own
+pub reach-inside : (p : ℕ) (w : Whole) → bodyReach (w .pane .kind) (p + 8) w ≤ sectionEnd p w
+unfolding sectionSize
+reach-inside p w = omega arith
+
 -- what is read of a section that was written, and the lists after it
 pub record SectionBack (order : ByteOrder) (s : List ℕ) (p : ℕ) (l : Lists) (w : Whole) : Type 0 where
-  pub end : ℕ
-  pub read : _≡_ {A = SectionRead} (readSection order s p l) (record { answer = Sections.Pane end (sectionEnd p w); «record» = readAs p w })
+  pub read : _≡_ {A = SectionRead} (readSection order s p l) (record { answer = answerOf p w; «record» = readAs p w })
   pub own : SameOwn (w .pane .kind) (readWhole s (readAs p w) (listsAfter order s p l)) w
 
 -- its parts
@@ -155,9 +164,9 @@ record Parts (order : ByteOrder) (s : List ℕ) (p : ℕ) (w : Whole) : Type 0 w
   header : _≡_ {A = Header} (headerTaken order s p) (record { letters = lettersOf (w .pane .kind); size = sizeOf p w; then = At (advanced (start p) 8) })
   body : BodyBack order s (advanced (start p) 8) (p + 8) (w .pane .kind) w
 
-parts : {s : List ℕ} (order : ByteOrder) (p : ℕ) (w : Whole) → GoodWhole w → length s ≤ 16777216 → Holds s p (section order p w) → Parts order s p w
+parts : {s : List ℕ} (order : ByteOrder) (p : ℕ) (w : Whole) → GoodWhole w → length s ≤ 16777216 → p % 4 ≡ 0 → Holds s p (section order p w) → Parts order s p w
 unfolding section
-parts {s} order p w g small h =
+parts {s} order p w g small whole h =
     let k = w .pane .kind in
     let n = bodyLength k (p + 8) w in
     let z = sectionSize n in
@@ -169,12 +178,14 @@ parts {s} order p w g small h =
     let h₃ : Holds s (advanced (start p) 8 .pos) (encodeBody k order (p + 8) w) = rw pos-advanced (holds-left (encodeBody k order (p + 8) w) _ t₂) in
     let f : p + z ≤ length s = omega (arith, fits, l) in
     let here : advanced (start p) 8 .pos ≡ p + 8 = pos-advanced (start p) 8 ∙ ap (λ (x : ℕ). x + 8) (pos-start p) in
+    let level : advanced (start p) 8 .reach ≡ advanced (start p) 8 .pos =
+    reach-level (start p) (omega (arith, reach-start p, pos-start p)) 8 ∙ omega (arith, pos-advanced (start p) 8) in
     record {
       header = header-back order p k z (size-some n) (size-whole n) f (omega (arith, f, small)) h₁ h₂;
-      body = body-back order (advanced (start p) 8) (p + 8) k w (g .typed) (g .good) (g .own) (omega arith) here h₃;
+      body = body-back order (advanced (start p) 8) (p + 8) k w (g .typed) (g .good) (g .own) (omega arith) (omega arith) here level h₃;
     }
 
-start-good : (n p : ℕ) (l : Lists) → SectionOk n p → Full l
+pub start-good : (n p : ℕ) (l : Lists) → SectionOk n p → Full l
     → readStart n p (length (l .quads)) (length (l .units)) (length (l .lines)) (length (l .frames)) ≡ At (start p)
 unfolding readStart
 start-good n p l h f =
@@ -194,11 +205,10 @@ section-back {s} order p w g small whole h l full =
     let fits = holds-fits (section order p w) h in
     let n = length-section order p w g in
     let z = size-some (bodyLength (w .pane .kind) (p + 8) w) in
-    let q = parts order p w g small h in
+    let q = parts order p w g small whole h in
     let a = start-good (length s) p l (record { most = small; within = omega (arith, fits); whole = whole }) full in
     let b = ne-eqb p (length s) (λ e. omega (arith, fits, n, z, e)) in
     record {
-      end = q .body .end;
       read = rw (a, b, q .header, letters-kind (w .pane .kind), q .body .read);
       own = rw (a, b, q .header, letters-kind (w .pane .kind)) (q .body .own l);
     }

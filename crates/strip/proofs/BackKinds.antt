@@ -1,6 +1,6 @@
 -- A body that a write lets through is read back, kind by kind, anywhere in a buffer.
 use mathlib.Core.Path.{_≡_, refl, sym, ap, _∙_}
-use Prim.Native.Nat.{ℕ, _+_, _-_, _*_, _/_, _≤_}
+use Prim.Native.Nat.{ℕ, _+_, _-_, _*_, _/_, _%_, _≤_}
 use native.Mathlib.Omega.{arith}
 use mathlib.Core.List.{List}
 use lib.ListN.{length, take, drop}
@@ -11,7 +11,7 @@ use Rattle.core.specs.declared.cursor.ByteOrder.{ByteOrder}
 use Rattle.core.specs.declared.cursor.Cursor.{Cursor}
 use Rattle.core.specs.declared.cursor.Place.the-variants.{At}
 use Rattle.core_checks.specs.declared.checks.Parsed.the-variants as Parseds
-use Rattle.core.proofs.Cursors.{pos-advanced}
+use Rattle.core.proofs.Cursors.{pos-advanced, pos-moved, advanced-more, reach-level}
 use Rattle.core.specs.Lists.{numbersAt}
 use Rattle.core.proofs.Lists.{length-numbers}
 use Rattle.core.proofs.Back.{Holds, split, Fit}
@@ -39,7 +39,7 @@ use Rattle.text_box_read.specs.declared.TextBoxTaken.{TextBoxTaken}
 use Rattle.text_box_parts.proofs.Pairs.{length-pairs}
 use Rattle.text_box.proofs.Equal as text-box-laws
 use Rattle.window_read.specs.Window.{blankWindow}
-use Rattle.window_write.specs.Write.{encodeWindow}
+use Rattle.window_write.specs.Write.{windowLength, encodeWindow}
 use Rattle.window.specs.Body as window
 use Rattle.window_read.specs.declared.WindowPane.{WindowPane}
 use Rattle.window.proofs.Back as window-laws
@@ -52,7 +52,7 @@ use Rattle.strip_records.specs.Whole.{Lists, Whole}
 use Rattle.strip.specs.Same.{SameOwn, readWhole, unitNumbers, lineNumbers}
 use Rattle.strip_records.specs.Typed.{Typed}
 use Rattle.strip_kinds.specs.Body.{bodyRead, bodyLists}
-use Rattle.strip_write.specs.Write.{encodeBody}
+use Rattle.strip_write.specs.Write.{bodyLength, encodeBody}
 use Rattle.strip_records.specs.declared.kind.Kind.{Kind}
 use Rattle.strip_records.specs.declared.kind.Kind.the-variants.{Pan1, Pic1, Txt1, Wnd1, Ali1}
 use Rattle.strip_records.specs.declared.record.Record.{Record}
@@ -105,11 +105,26 @@ readRecord k c body w = record {
   alignment = ownAlignment k w;
 }
 
--- a body at B that was written as that of w is read so, and its own part is equal to that of w
+-- where the read of a body at B that was written as that of w ends, and how far it looks: at all that was written
+abbrev pub bodyEnd : Kind → ℕ → Whole → ℕ
+bodyEnd Pan1 body w = body + 76
+bodyEnd Pic1 body w = body + picture.bodyLength (w .pane .picture) (w .lists .quads)
+bodyEnd Txt1 body w = body + 160
+bodyEnd Wnd1 body w = body + 104
+bodyEnd Ali1 body w = body + 88
+
+abbrev pub bodyReach : Kind → ℕ → Whole → ℕ
+bodyReach k body w = body + bodyLength k body w
+
+-- such a body is read so, and its own part is equal to that of w
 pub record BodyBack (order : ByteOrder) (s : List ℕ) (c : Cursor) (body : ℕ) (k : Kind) (w : Whole) : Type 0 where
-  pub end : ℕ
-  pub read : _≡_ {A = BodyRead} (bodyRead order k s (At c) body) (record { answer = Parseds.Read end; «record» = readRecord k c body w })
+  pub read : _≡_ {A = BodyRead} (bodyRead order k s (At c) body) (record { answer = Parseds.Read (bodyEnd k body w) (bodyReach k body w); «record» = readRecord k c body w })
   pub own : (l : Lists) → SameOwn k (readWhole s (readRecord k c body w) (bodyLists order k s (At c) body l)) w
+
+-- the answer of a run by its two figures
+parsed-at : (d : Cursor) (end reach : ℕ) → d .pos ≡ end → d .reach ≡ reach → parsedOf (At d) ≡ Parseds.Read end reach
+unfolding parsedOf
+parsed-at d end reach e f = rw (e, f)
 
 -- a list over the front of another
 front : (n : ℕ) (l old : List ℕ) → n ≡ length l → take n (over l old) ≡ l
@@ -127,32 +142,40 @@ lines-count order s (line.Present count) at =
     let b = length-numbers order 4 count s (at + 1 + 4 * count) in
     sym (length-pairs _ _ (a ∙ sym b) ∙ ap (λ (n : ℕ). 2 * n) a)
 
-module _ {s : List ℕ} (order : ByteOrder) (c : Cursor) (body : ℕ) (w : Whole) (t : Typed w) (g : Good (w .pane .base)) where
+-- n bytes of a body with no seek, by a run that has looked as far as it stands
+straight : (c : Cursor) (body : ℕ) → c .pos ≡ body → c .reach ≡ c .pos → (n : ℕ) → parsedOf (At (advanced c n)) ≡ Parseds.Read (body + n) (body + n)
+straight c body here level n =
+    parsed-at (advanced c n) (body + n) (body + n) (pos-advanced c n ∙ omega (arith, here)) (reach-level c level n ∙ omega (arith, here))
+
+base-level : (c : Cursor) → c .reach ≡ c .pos → advanced c 76 .reach ≡ advanced c 76 .pos
+base-level c level = reach-level c level 76 ∙ sym (pos-advanced c 76)
+
+module _ {s : List ℕ} (order : ByteOrder) (c : Cursor) (body : ℕ) (w : Whole) (t : Typed w) (g : Good (w .pane .base)) (here : c .pos ≡ body) (level : c .reach ≡ c .pos) where
   -- ---- pan1
 
   pan-back : Holds s (c .pos) (encodeBody Pan1 order body w) → BodyBack order s c body Pan1 w
-  unfolding bodyRead bodyLists encodeBody readRecord SameOwn paneRead parsedOf unlessRefused
+  unfolding bodyRead bodyLists encodeBody readRecord SameOwn paneRead unlessRefused
   pan-back h = record {
-    end = advanced c 76 .pos;
-    read = rw (pane-back c order (w .pane .base) (t .pane .base) g h, texts-back (w .pane .base) g (advanced c 76) body);
+    read = rw (pane-back c order (w .pane .base) (t .pane .base) g h, texts-back (w .pane .base) g (advanced c 76) body, straight c body here level 76);
     own = λ l. tt;
   }
 
   -- ---- ali1
 
   ali-back : Holds s (c .pos) (encodeBody Ali1 order body w) → BodyBack order s c body Ali1 w
-  unfolding bodyRead bodyLists encodeBody readRecord SameOwn alignment.alignmentRead alignment.encodeBody parsedOf unlessRefused
+  unfolding bodyRead bodyLists encodeBody readRecord SameOwn alignment.alignmentRead alignment.encodeBody unlessRefused
   ali-back h =
       let b = w .pane .base in
       let a = w .pane .alignment in
       let (h₁, h₂) = split (encodePane order b) (encodeAlignment order a) 76 (length-pane order b (sound b g)) h in
       let h₃ : Holds s (advanced c 76 .pos) (encodeAlignment order a) = rw pos-advanced h₂ in
       record {
-        end = advanced (advanced c 76) 12 .pos;
         read = rw (
           pane-back c order b (t .pane .base) g h₁,
           alignment-laws.alignment-back (advanced c 76) order a (t .pane .alignment) h₃,
           texts-back b g (advanced (advanced c 76) 12) body,
+          advanced-more c 76 12,
+          straight c body here level 88,
         );
         own = λ l. refl;
       }
@@ -183,16 +206,17 @@ module _ {s : List ℕ} (order : ByteOrder) (c : Cursor) (body : ℕ) (w : Whole
         )
 
     pic-back : BodyBack order s c body Pic1 w
-    unfolding bodyRead bodyLists readRecord SameOwn OwnGood picture.pictureRead parsedOf unlessRefused picture-laws.readBackPicture
+    unfolding bodyRead bodyLists readRecord SameOwn OwnGood picture.pictureRead picture.bodyLength unlessRefused picture-laws.readBackPicture
     pic-back =
         let x = w .pane .picture in
         let q = w .lists .quads in
         record {
-          end = advanced (advanced c 76) (pictureLength x q) .pos;
           read = rw (
             pane-back c order (w .pane .base) (t .pane .base) g (pic-base .0),
             picture-laws.picture-back (advanced c 76) order x q (t .pane .picture) o pic-fit (pic-base .1),
             texts-back (w .pane .base) g (advanced (advanced c 76) (pictureLength x q)) body,
+            advanced-more c 76 (pictureLength x q),
+            straight c body here level (76 + pictureLength x q),
           );
           own = λ l.
               let n : 8 * (length q / 8) ≡ length q = omega (arith, o .whole) in
@@ -201,7 +225,7 @@ module _ {s : List ℕ} (order : ByteOrder) (c : Cursor) (body : ℕ) (w : Whole
 
   -- ---- wnd1
 
-  module _ (o : OwnGood Wnd1 w) (low : 8 ≤ body) (here : c .pos ≡ body) (h : Holds s (c .pos) (encodeBody Wnd1 order body w)) where
+  module _ (o : OwnGood Wnd1 w) (low : 8 ≤ body) (whole : body % 4 ≡ 0) (h : Holds s (c .pos) (encodeBody Wnd1 order body w)) where
     wnd-base : Holds s (c .pos) (encodePane order (w .pane .base)) × Holds s (advanced c 76 .pos) (encodeWindow order body (w .pane .window) (w .lists .quads) (w .lists .frames))
     unfolding encodeBody window.encodeBody
     wnd-base =
@@ -217,7 +241,10 @@ module _ {s : List ℕ} (order : ByteOrder) (c : Cursor) (body : ℕ) (w : Whole
     wnd-frames-fit : Fit 2 (w .lists .frames)
     wnd-frames-fit = below-fit 2 (w .lists .frames) (t .frames)
 
-    wnd-place : window.readPlace order s (At c) body ≡ At (advanced (advanced c 76) 28)
+    abbrev wnd-end : Cursor
+    wnd-end = window-laws.afterWindow (advanced c 76) body (length (w .lists .quads)) (length (w .lists .frames))
+
+    wnd-place : window.readPlace order s (At c) body ≡ At wnd-end
     unfolding window.readPlace window.ownTaken OwnGood
     wnd-place =
         let x = w .pane .window in
@@ -226,7 +253,7 @@ module _ {s : List ℕ} (order : ByteOrder) (c : Cursor) (body : ℕ) (w : Whole
         rw (
           pane-back c order (w .pane .base) (t .pane .base) g (wnd-base .0),
           window-laws.window-back (advanced c 76) order body x q f (t .pane .window) o wnd-quads-fit wnd-frames-fit low wnd-here (wnd-base .1),
-          texts-back (w .pane .base) g (advanced (advanced c 76) 28) body,
+          texts-back (w .pane .base) g wnd-end body,
         )
 
     wnd-quads : (old : List ℕ) → window.readQuads order s (At c) body old ≡ over (w .lists .quads) old
@@ -248,15 +275,16 @@ module _ {s : List ℕ} (order : ByteOrder) (c : Cursor) (body : ℕ) (w : Whole
         )
 
     wnd-back : BodyBack order s c body Wnd1 w
-    unfolding bodyRead bodyLists readRecord SameOwn OwnGood window.windowRead window.ownTaken parsedOf unlessRefused window-laws.readBackWindow readBackContent
+    unfolding bodyRead bodyLists readRecord SameOwn OwnGood window.windowRead window.ownTaken window.bodyLength unlessRefused window-laws.readBackWindow readBackContent
     wnd-back =
         let x = w .pane .window in
         let q = w .lists .quads in
         let f = w .lists .frames in
         record {
-          end = advanced (advanced c 76) 28 .pos;
           read = rw (
             wnd-place,
+            parsed-at wnd-end (body + 104) (body + (76 + windowLength body (length q) (length f))) (pos-moved _ _)
+                (window-laws.reach-window (advanced c 76) body (length q) (length f) (base-level c level) wnd-here whole ∙ omega arith),
             pane-back c order (w .pane .base) (t .pane .base) g (wnd-base .0),
             window-laws.window-back (advanced c 76) order body x q f (t .pane .window) o wnd-quads-fit wnd-frames-fit low wnd-here (wnd-base .1),
           );
@@ -274,7 +302,7 @@ module _ {s : List ℕ} (order : ByteOrder) (c : Cursor) (body : ℕ) (w : Whole
 
   -- ---- txt1
 
-  module _ (o : OwnGood Txt1 w) (low : 8 ≤ body) (here : c .pos ≡ body) (h : Holds s (c .pos) (encodeBody Txt1 order body w)) where
+  module _ (o : OwnGood Txt1 w) (low : 8 ≤ body) (h : Holds s (c .pos) (encodeBody Txt1 order body w)) where
     txt-base : Holds s (c .pos) (encodePane order (w .pane .base)) × Holds s (advanced c 76 .pos) (encodeTextBox order body (w .pane .«text_box») (w .lists .units) (w .lists .lines) (w .label))
     unfolding encodeBody text-box.encodeBody
     txt-base =
@@ -303,15 +331,22 @@ module _ {s : List ℕ} (order : ByteOrder) (c : Cursor) (body : ℕ) (w : Whole
         text-box-laws.read-same s (advanced c 76) order body txt-here low (w .pane .«text_box») (w .lists .units) (w .lists .lines) (w .label)
         (t .pane .«text_box») o (below-at 2 _ (t .units)) (below-at 4 _ (t .lines)) (txt-base .1)
 
-    txt-then : Read .then ≡ At (advanced (advanced c 76) 84)
-    unfolding text-box-laws.readBack
-    txt-then = refl
+    abbrev txt-after : Cursor
+    txt-after = text-box-laws.afterBox body (advanced c 76) (w .pane .«text_box») (w .lists .units) (w .lists .lines) (w .label)
 
-    txt-end : text-box.textBoxEnd order s (At c) body ≡ At (advanced (advanced c 76) 84)
+    txt-then : Read .then ≡ At txt-after
+    txt-then = text-box-laws.then-back body (advanced c 76) (w .pane .«text_box») (w .lists .units) (w .lists .lines) (w .label)
+
+    txt-answer : parsedOf (At txt-after) ≡ Parseds.Read (bodyEnd Txt1 body w) (bodyReach Txt1 body w)
+    txt-answer =
+        parsed-at txt-after _ _ (text-box-laws.pos-box body (advanced c 76) (w .pane .«text_box») (w .lists .units) (w .lists .lines) (w .label) txt-here)
+        (text-box-laws.reach-box body (advanced c 76) (w .pane .«text_box») (w .lists .units) (w .lists .lines) (w .label) low txt-here (base-level c level) ∙ omega arith)
+
+    txt-end : text-box.textBoxEnd order s (At c) body ≡ At txt-after
     unfolding text-box.textBoxEnd OwnGood
     txt-end =
-        rw (txt-own, pane-back c order (w .pane .base) (t .pane .base) g (txt-base .0), txt-then, texts-back (w .pane .base) g (advanced (advanced c 76) 84) body)
-        (text-box-laws.label-passes s (advanced c 76) (advanced (advanced c 76) 84) order body txt-here low (w .pane .«text_box») (w .lists .units) (w .lists .lines) (w .label)
+        rw (txt-own, pane-back c order (w .pane .base) (t .pane .base) g (txt-base .0), txt-then, texts-back (w .pane .base) g txt-after body)
+        (text-box-laws.label-passes s (advanced c 76) txt-after order body txt-here low (w .pane .«text_box») (w .lists .units) (w .lists .lines) (w .label)
         (t .pane .«text_box») o (below-at 2 _ (t .units)) (below-at 4 _ (t .lines)) (txt-base .1))
 
     txt-units : (old : List ℕ) → text-box.unitsAfter order s (At c) body old ≡ over (textBoxUnits order s Read) old
@@ -323,10 +358,9 @@ module _ {s : List ℕ} (order : ByteOrder) (c : Cursor) (body : ℕ) (w : Whole
     txt-lines old = rw (txt-end, txt-own)
 
     txt-back : BodyBack order s c body Txt1 w
-    unfolding bodyRead bodyLists readRecord SameOwn text-box.textBoxRead parsedOf unlessRefused
+    unfolding bodyRead bodyLists readRecord SameOwn text-box.textBoxRead unlessRefused
     txt-back = record {
-      end = advanced (advanced c 76) 84 .pos;
-      read = rw (txt-end, txt-own, pane-back c order (w .pane .base) (t .pane .base) g (txt-base .0));
+      read = rw (txt-end, txt-own, txt-answer, pane-back c order (w .pane .base) (t .pane .base) g (txt-base .0));
       own = λ l.
           rw (
             txt-units (l .units),
@@ -339,9 +373,9 @@ module _ {s : List ℕ} (order : ByteOrder) (c : Cursor) (body : ℕ) (w : Whole
 
 -- every kind
 pub body-back : {s : List ℕ} (order : ByteOrder) (c : Cursor) (body : ℕ) (k : Kind) (w : Whole) → Typed w → Good (w .pane .base) → OwnGood k w
-    → 8 ≤ body → c .pos ≡ body → Holds s (c .pos) (encodeBody k order body w) → BodyBack order s c body k w
-body-back order c body Pan1 w t g o low here h = pan-back order c body w t g h
-body-back order c body Pic1 w t g o low here h = pic-back order c body w t g o h
-body-back order c body Txt1 w t g o low here h = txt-back order c body w t g o low here h
-body-back order c body Wnd1 w t g o low here h = wnd-back order c body w t g o low here h
-body-back order c body Ali1 w t g o low here h = ali-back order c body w t g h
+    → 8 ≤ body → body % 4 ≡ 0 → c .pos ≡ body → c .reach ≡ c .pos → Holds s (c .pos) (encodeBody k order body w) → BodyBack order s c body k w
+body-back order c body Pan1 w t g o low whole here level h = pan-back order c body w t g here level h
+body-back order c body Pic1 w t g o low whole here level h = pic-back order c body w t g here level o h
+body-back order c body Txt1 w t g o low whole here level h = txt-back order c body w t g here level o low h
+body-back order c body Wnd1 w t g o low whole here level h = wnd-back order c body w t g here level o low whole h
+body-back order c body Ali1 w t g o low whole here level h = ali-back order c body w t g here level h

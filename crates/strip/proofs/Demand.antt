@@ -21,7 +21,7 @@ use Rattle.core.proofs.Back.{Holds}
 use Rattle.strip_records.specs.Whole.{Lists, Full, Whole}
 use Rattle.strip.specs.Same.{Same, readWhole}
 use Rattle.strip_records.specs.Typed.{Typed}
-use Rattle.strip_read.specs.Read.{endedWith, listsAfter}
+use Rattle.strip_read.specs.Read.{endedWith, readSection, listsAfter}
 use Rattle.strip_write.specs.Write.{sizeOf, section, sectionEnd, writeChecked, writeAnswer, writeOutput}
 use Rattle.strip.specs.Strip.{All, Run, step, runFrom, run, strip, SameAll, Gives}
 use Rattle.strip_read.specs.declared.read.SectionRead.{SectionRead}
@@ -29,9 +29,9 @@ use Rattle.strip_header.specs.declared.Section.{Section}
 use Rattle.strip_header.specs.declared.Section.the-variants as Sections
 use Rattle.strip_write.proofs.Cleared.{Accepts, write-cleared}
 use Rattle.strip.proofs.Same.{section-same, same-both}
-use Rattle.strip.proofs.BackKinds.{GoodWhole, readRecord}
+use Rattle.strip.proofs.BackKinds.{GoodWhole, bodyEnd, bodyReach, readRecord}
 use Rattle.pane.proofs.Same as pane
-use Rattle.strip.proofs.Back.{SectionBack, readAs, length-section, size-whole, size-shift, section-shift, section-back, section-end}
+use Rattle.strip.proofs.Back.{SectionBack, readAs, reach-inside, length-section, size-whole, size-shift, section-shift, section-back, section-end}
 
 -- ---- what an accepted write and a refused one say
 
@@ -71,12 +71,12 @@ refused order w o p why h = refused-by order w o p why (writeChecked w (length o
 IsEnd : Section → Type 0
 IsEnd Sections.End = Unit {0}
 IsEnd (Sections.Passed next) = ⊥
-IsEnd (Sections.Pane end next) = ⊥
+IsEnd (Sections.Pane end next reach) = ⊥
 IsEnd (Sections.Refused why) = ⊥
 
-end-pane : (x e : ℕ) → Sections.End ≡ Sections.Pane x e → ⊥
+end-pane : (x e r : ℕ) → Sections.End ≡ Sections.Pane x e r → ⊥
 unfolding IsEnd
-end-pane x e h = subst IsEnd h tt
+end-pane x e r h = subst IsEnd h tt
 
 take-splice : (o : List ℕ) (p : ℕ) (xs : List ℕ) → p + length xs ≤ length o → take (p + length xs) (splice o p xs) ≡ take p o ++ xs
 take-splice o p xs h =
@@ -139,6 +139,34 @@ module _ (order : ByteOrder) where
   grown [] t o p h = record { stripped = sym (append-nil _); ended = refl; good = tt; inside = h; small = λ k. k }
   grown (w ∷ ws) t o p h = grown-step w (t .0) ws (grown ws (t .1)) o p h (writeAnswer w (length o) p) refl
 
+  -- ---- the section of a good record after bytes b, at a multiple of 4, with those of others after it
+
+  record Next (b : List ℕ) (w : Whole) (ws : List Whole) : Type 0 where
+    back : (l : Lists) → Full l → SectionBack order (b ++ (section order 0 w ++ sections ws)) (length b) l w
+    answer : (l : Lists) → Full l → readSection order (b ++ (section order 0 w ++ sections ws)) (length b) l .answer
+        ≡ Sections.Pane (bodyEnd (w .pane .kind) (length b + 8) w) (length b + sizeOf 0 w) (bodyReach (w .pane .kind) (length b + 8) w)
+    inside : bodyReach (w .pane .kind) (length b + 8) w ≤ length b + sizeOf 0 w
+    long : length (b ++ section order 0 w) ≡ length b + sizeOf 0 w
+    whole : length (b ++ section order 0 w) % 4 ≡ 0
+
+  next : (w : Whole) (ws : List Whole) → GoodWhole w → (b : List ℕ) → length b % 4 ≡ 0 → length (b ++ (section order 0 w ++ sections ws)) ≤ 16777216 → Next b w ws
+  next w ws g b h k =
+      let l : length (section order 0 w) ≡ sizeOf 0 w = length-section order 0 w g in
+      let z : sizeOf 0 w % 4 ≡ 0 = size-whole _ in
+      let n : length (b ++ section order 0 w) ≡ length b + sizeOf 0 w = rw (length-append, l) in
+      let s = b ++ (section order 0 w ++ sections ws) in
+      let v : section order (length b) w ≡ section order 0 w = section-shift order (length b) w h in
+      let q : sizeOf (length b) w ≡ sizeOf 0 w = size-shift (length b) w h in
+      let x : Holds s (length b) (section order (length b) w) = rw v (record { before = b; after = sections ws; whole = refl; place = refl }) in
+      record {
+        back = section-back order (length b) w g k h x;
+        answer = λ r full. ap (λ (y : SectionRead). y .answer) (section-back order (length b) w g k h x r full .read)
+            ∙ ap (λ (y : ℕ). Sections.Pane (bodyEnd (w .pane .kind) (length b + 8) w) (length b + y) (bodyReach (w .pane .kind) (length b + 8) w)) q;
+        inside = omega (arith, reach-inside (length b) w, q);
+        long = n;
+        whole = omega (arith, n, z, h);
+      }
+
   -- ---- reading the sections of good records from a place that is a multiple of 4 gives them back, and their ends
 
   gives : (ws : List Whole) → All GoodWhole ws → (b : List ℕ) → length b % 4 ≡ 0 → length (b ++ sections ws) ≤ 16777216
@@ -146,22 +174,17 @@ module _ (order : ByteOrder) where
   unfolding Gives sections endsFrom All endedWith
   gives [] g b h k = λ l full. rw (append-nil b, section-end order b (rw (append-nil b) at k) h l full)
   gives (w ∷ ws) g b h k =
-      let l : length (section order 0 w) ≡ sizeOf 0 w = length-section order 0 w (g .0) in
-      let z : sizeOf 0 w % 4 ≡ 0 = size-whole _ in
-      let n : length (b ++ section order 0 w) ≡ length b + sizeOf 0 w = rw (length-append, l) in
-      let ih = gives ws (g .1) (b ++ section order 0 w) (omega (arith, n, z, h)) (rw append-assoc k) in
-      let s = b ++ (section order 0 w ++ sections ws) in
-      let v : section order (length b) w ≡ section order 0 w = section-shift order (length b) w h in
-      let q : sizeOf (length b) w ≡ sizeOf 0 w = size-shift (length b) w h in
-      let x : Holds s (length b) (section order (length b) w) = rw v (record { before = b; after = sections ws; whole = refl; place = refl }) in (
-        λ r full.
-            let e = section-back order (length b) w (g .0) k h x r full in
+      let n = next w ws (g .0) b h k in
+      let ih = gives ws (g .1) (b ++ section order 0 w) (n .whole) (rw append-assoc k) in (
+        λ l full.
+            let e = n .back l full in
             record {
-              end = e .end;
-              answer = ap (λ (y : SectionRead). y .answer) (e .read) ∙ ap (λ (y : ℕ). Sections.Pane (e .end) (length b + y)) q;
+              end = bodyEnd (w .pane .kind) (length b + 8) w;
+              reach = bodyReach (w .pane .kind) (length b + 8) w;
+              answer = n .answer l full;
               same = rw (ap (λ (y : SectionRead). y .«record») (e .read)) (section-is e);
             },
-        rw (append-assoc, n) at ih,
+        rw (append-assoc, n .long) at ih,
       )
 
   -- ---- what reading gives is one list
@@ -187,10 +210,10 @@ module _ (order : ByteOrder) where
   same-read s p [] (v ∷ vs) [] [] g h = absurd h
   same-read s p [] (v ∷ vs) [] (f ∷ fs) g h =
       let k = h .0 some some-full in
-      absurd (end-pane (k .end) f (sym (g some some-full) ∙ k .answer))
+      absurd (end-pane (k .end) f (k .reach) (sym (g some some-full) ∙ k .answer))
   same-read s p (w ∷ ws) [] (e ∷ es) [] g h =
       let k = g .0 some some-full in
-      absurd (end-pane (k .end) e (sym (h some some-full) ∙ k .answer))
+      absurd (end-pane (k .end) e (k .reach) (sym (h some some-full) ∙ k .answer))
   same-read s p (w ∷ ws) [] (e ∷ es) (f ∷ fs) g h = absurd h
   same-read s p (w ∷ ws) (v ∷ vs) (e ∷ es) [] g h = absurd h
   same-read s p (w ∷ ws) (v ∷ vs) (e ∷ es) (f ∷ fs) g h =
@@ -245,3 +268,41 @@ demand3 order ws vs t r o u = (
   run-gives order ws t o,
   run-gives order vs r u,
 )
+
+-- ---- beside demand 3: how far its reads look
+
+-- a read of s at p with l lent gives a pane and the next place e, and looks at no byte from e on
+pub record Looked (order : ByteOrder) (s : List ℕ) (p : ℕ) (l : Lists) (e : ℕ) : Type 0 where
+  pub end : ℕ
+  pub reach : ℕ
+  pub answer : readSection order s p l .answer ≡ Sections.Pane end e reach
+  pub inside : reach ≤ e
+
+-- reading s from p, section by section, with these next places
+unfoldable pub Inside : ByteOrder → List ℕ → ℕ → List ℕ → Type 0
+Inside order s p [] = Unit {0}
+Inside order s p (e ∷ es) = ((l : Lists) → Full l → Looked order s p l e) × Inside order s e es
+
+inside-from : (order : ByteOrder) (ws : List Whole) → All GoodWhole ws → (b : List ℕ) → length b % 4 ≡ 0 → length (b ++ sections order ws) ≤ 16777216
+    → Inside order (b ++ sections order ws) (length b) (endsFrom order (length b) ws)
+unfolding Inside sections endsFrom All
+inside-from order [] g b h k = tt
+inside-from order (w ∷ ws) g b h k =
+    let n = next order w ws (g .0) b h k in
+    let ih = inside-from order ws (g .1) (b ++ section order 0 w) (n .whole) (rw append-assoc k) in (
+      λ l full. record {
+        end = bodyEnd (w .pane .kind) (length b + 8) w;
+        reach = bodyReach (w .pane .kind) (length b + 8) w;
+        answer = n .answer l full;
+        inside = n .inside;
+      },
+      rw (append-assoc, n .long) at ih,
+    )
+
+-- NO SECTION OF A STRIP THAT WAS WRITTEN LOOKS PAST ITS END: each read of demand 3 has a reach of at most its next place
+pub strip-inside : (order : ByteOrder) (ws : List Whole) → All Typed ws → (o : List ℕ) → Inside order (strip (run order ws o)) 0 (run order ws o .ends)
+strip-inside order ws t o =
+    let y = run order ws o in
+    let g : Grown order o 0 y = grown order ws t o 0 (omega arith) in
+    let n : length (strip y) ≡ y .place = length-take-le (y .place) (y .out) (g .inside) in
+    rw (run-strip order ws t o, g .ended) (inside-from order (y .kept) (g .good) [] refl (rw (← run-strip order ws t o, n) (g .small (omega arith))))

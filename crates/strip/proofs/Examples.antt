@@ -56,7 +56,7 @@ full = lists (zeros 2040) (zeros 32767) (zeros 510) (zeros 510)
 pub record Lines : Type 0 where
   pub empty : readSection Little [] 0 full .answer ≡ Sections.End
   pub bare : readSection Little (letterBytes Ali1 ++ (8 ∷ 0 ∷ 0 ∷ 0 ∷ [])) 0 full .answer ≡ Sections.Refused (UnexpectedEof 8 1)
-  pub whole : readSection Little (letterBytes Ali1 ++ (96 ∷ 0 ∷ 0 ∷ 0 ∷ zeros 88)) 0 full .answer ≡ Sections.Pane 96 96
+  pub whole : readSection Little (letterBytes Ali1 ++ (96 ∷ 0 ∷ 0 ∷ 0 ∷ zeros 88)) 0 full .answer ≡ Sections.Pane 96 96 96
 
 pub three-lines : Lines
 unfolding start advanced letterBytes kindOf readSection readStart sectionStart lengthChecked sectionChecked listChecked stopIf orRefused readAt headerTaken sizeBad byKind readBody bodyRead alignmentRead parsedOf unlessRefused finished refusedWith endedWith paneTaken string24Taken string8Taken vector2Taken vector3Taken alignmentTaken numberTaken stringTaken upToNul part numberAt spelled textsChecked nameIll wellFormed walk
@@ -69,7 +69,7 @@ float = 0x7F ∷ 0x80 ∷ 0x00 ∷ 0x01 ∷ []
 pub record Turned : Type 0 where
   pub bare : readSection Big (letterBytes Ali1 ++ (0 ∷ 0 ∷ 0 ∷ 8 ∷ [])) 0 full .answer ≡ Sections.Refused (UnexpectedEof 8 1)
   pub beyond : readSection Big (letterBytes Ali1 ++ (8 ∷ 0 ∷ 0 ∷ 0 ∷ [])) 0 full .answer ≡ Sections.Refused (SectionSize 4 134217728)
-  pub whole : readSection Big (letterBytes Ali1 ++ (0 ∷ 0 ∷ 0 ∷ 96 ∷ zeros 88)) 0 full .answer ≡ Sections.Pane 96 96
+  pub whole : readSection Big (letterBytes Ali1 ++ (0 ∷ 0 ∷ 0 ∷ 96 ∷ zeros 88)) 0 full .answer ≡ Sections.Pane 96 96 96
   pub number : numberAt Big 4 float 0 ≡ 0x7F800001
   pub back : bytesOf Big 4 (numberAt Big 4 float 0) ≡ float
 

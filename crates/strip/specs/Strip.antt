@@ -68,7 +68,8 @@ SameAll (a ∷ rest) (b ∷ others) = Same a b × SameAll rest others
 -- label in the strip, is equal to w
 pub record Gave (order : ByteOrder) (s : List ℕ) (p : ℕ) (l : Lists) (w : Whole) (e : ℕ) : Type 0 where
   pub end : ℕ
-  pub answer : readSection order s p l .answer ≡ Sections.Pane end e
+  pub reach : ℕ
+  pub answer : readSection order s p l .answer ≡ Sections.Pane end e reach
   pub same : Same (readWhole s (readSection order s p l .«record») (listsAfter order s p l)) w
 
 -- reading s from p, section by section, each at the next place that the one before gave, each with any full lists, gives these records and

@@ -10,11 +10,17 @@ ghost use Prim.Native.Nat.{_≤_};
 ghost use lib.ListN.{length};
 ghost use Rattle.strip_header.specs.Header.{readStart, headerTaken};
 
-// What a section read answers: the place after the body read and the next section; the next section; the end; or why not.
+// What a section read answers: the place after the body read, the next section and how far the body read looked; the next section; the end; or why not.
 pub enum Section {
     End,
-    Passed { next: usize },
-    Pane { end: usize, next: usize },
+    Passed {
+        next: usize,
+    },
+    Pane {
+        end: usize,
+        next: usize,
+        reach: usize,
+    },
     Refused(Refusal),
 }
 

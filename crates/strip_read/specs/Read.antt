@@ -37,7 +37,7 @@ passedWith next = record { answer = Sections.Passed next; «record» = blankReco
 
 -- the record where the body was read
 unfoldable pub finished : Parsed → ℕ → Record → SectionRead
-finished (Parseds.Read end) next r = record { answer = Sections.Pane end next; «record» = r }
+finished (Parseds.Read end reach) next r = record { answer = Sections.Pane end next reach; «record» = r }
 finished (Parseds.Refused why) next r = refusedWith why
 
 unfoldable pub readBody : ByteOrder → Kind → List ℕ → Place → ℕ → ℕ → SectionRead

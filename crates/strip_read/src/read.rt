@@ -54,10 +54,10 @@ fn finish(read: BodyRead, next: usize) -> SectionRead
 {
     let answer = read.answer;
     match answer {
-        Parsed::Read { end } => {
+        Parsed::Read { end, reach } => {
             let record = read.record;
             SectionRead {
-                answer: Section::Pane { end, next },
+                answer: Section::Pane { end, next, reach },
                 record,
             }
         }

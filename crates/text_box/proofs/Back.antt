@@ -10,16 +10,16 @@ use lib.Dec.{eqb}
 use borrow.Author.Tests.{ne-eqb}
 use Rattle.utf8.proofs.Tests.{and-none}
 use Rattle.core.specs.Bytes.{bytesOf, bytesOfAll, padding}
-use Rattle.core.specs.Taken.{Taken, advanced, moved, sought}
+use Rattle.core.specs.Taken.{Taken, start, advanced, moved, sought}
 use Rattle.core.specs.Lists.{numbersTaken, numbersAt}
 use Rattle.core_checks.specs.Checks.{unlessRefused}
 use Rattle.core.specs.declared.cursor.ByteOrder.{ByteOrder}
 use Rattle.core.specs.declared.cursor.Cursor.{Cursor}
 use Rattle.core.specs.declared.cursor.Place.the-variants.{At}
 use Rattle.core.proofs.Numbers.{length-bytes}
-use Rattle.core.proofs.Cursors.{pos-advanced, pos-moved, advanced-zero}
-use Rattle.core.proofs.Runs.{seek-got}
-use Rattle.core.proofs.Lists.{numbers-here}
+use Rattle.core.proofs.Cursors.{pos-start, pos-advanced, pos-moved, advanced-zero, advanced-more, reach-moved, reach-covers, reach-within}
+use Rattle.core.proofs.Runs.{seek-to}
+use Rattle.core.proofs.Here.{numbers-start}
 use Rattle.core.proofs.Back.{Holds, split, holds-fits, length-all, number-back, label-back}
 use Rattle.ui2d.proofs.Parts.{Fits, numbers-at}
 use Rattle.text_box_parts.specs.declared.Text.{Text}
@@ -32,7 +32,7 @@ use Rattle.text_box_parts.specs.declared.parts.TextTaken.{TextTaken}
 use Rattle.text_box_parts.specs.declared.parts.LabelTaken.{LabelTaken}
 use Rattle.text_box_parts.specs.declared.parts.LinesTaken.{LinesTaken}
 use Rattle.text_box_parts.specs.Parts.{placeOf, Part, absent, present, textAt, textTaken, labelAt, labelTaken, linesAt, linesTaken, column}
-use Rattle.text_box_write.specs.Written.{textOffset, partOffset, encodeText, encodeLabel, encodeLines}
+use Rattle.text_box_write.specs.Written.{textOffset, partOffset, textWidth, labelWidth, lineWidth, encodeText, encodeLabel, encodeLines}
 use Rattle.text_box_write.proofs.Columns.{length-column}
 use Rattle.text_box.proofs.Cleared.{GoodText, GoodLabel, GoodLines}
 
@@ -83,17 +83,63 @@ abbrev pub Set : Part → Bool → Type 0
 Set absent line = Unit {0}
 Set (present l) line = line ≡ true
 
--- ---- a seek, and the numbers at its place
+-- ---- where the run stands after a part: a present one is sought, read, and left for the end of the fixed bytes
+
+abbrev visited : ℕ → Cursor → ℕ → ℕ → Cursor
+visited body d at w = moved (advanced (moved d at) w) (body + 160)
+
+abbrev pub afterText : ℕ → Cursor → Part → Cursor
+afterText body d absent = d
+afterText body d (present u) = visited body d (placeOf body 168) (2 * length u)
+
+-- of a part that was aligned from a place
+abbrev pub afterLabel : ℕ → Cursor → ℕ → Part → Cursor
+afterLabel body d at absent = d
+afterLabel body d at (present bytes) = visited body d (at + padding at) (length bytes + 1)
+
+abbrev pub afterLines : ℕ → Cursor → ℕ → Part → Cursor
+afterLines body d at absent = d
+afterLines body d at (present l) = visited body d (at + padding at) (1 + (4 * (length l / 2) + 4 * (length l / 2)))
+
+-- it stands where it stood
+module _ (body : ℕ) (d : Cursor) (e : d .pos ≡ body + 160) where
+  pub pos-text : (found : Part) → afterText body d found .pos ≡ body + 160
+  pos-text absent = e
+  pos-text (present u) = pos-moved _ _
+
+  pub pos-label : (at : ℕ) (name : Part) → afterLabel body d at name .pos ≡ body + 160
+  pos-label at absent = e
+  pos-label at (present bytes) = pos-moved _ _
+
+  pub pos-lines : (at : ℕ) (table : Part) → afterLines body d at table .pos ≡ body + 160
+  pos-lines at absent = e
+  pos-lines at (present l) = pos-moved _ _
+
+-- and has looked to the end of the part
+reach-visited : (body : ℕ) (d : Cursor) (at w : ℕ) → 0 < w → d .reach ≤ at + w → visited body d at w .reach ≡ at + w
+reach-visited body d at w h k =
+    let m : Cursor = moved d at in
+    let p = pos-moved d at in
+    let most = reach-within m w (at + w) (omega (arith, reach-moved d at)) (omega (arith, p)) in
+    reach-moved (advanced m w) (body + 160) ∙ omega (arith, most, reach-covers m w h, p)
+
+module _ (body : ℕ) (d : Cursor) (at : ℕ) (e : d .reach ≡ at) where
+  pub reach-text : at ≡ placeOf body 168 → (found : Part) → afterText body d found .reach ≡ at + textWidth found
+  reach-text f absent = omega (arith, e)
+  reach-text f (present []) = reach-moved _ _ ∙ rw advanced-zero (reach-moved d (placeOf body 168) ∙ omega (arith, e))
+  reach-text f (present (v ∷ u)) = reach-visited body d (placeOf body 168) (2 * suc (length u)) (omega arith) (omega (arith, e, f)) ∙ omega (arith, f)
+
+  pub reach-label : (name : Part) → afterLabel body d at name .reach ≡ at + labelWidth at name
+  reach-label absent = omega (arith, e)
+  reach-label (present bytes) = reach-visited body d (at + padding at) (length bytes + 1) (omega arith) (omega (arith, e)) ∙ omega arith
+
+  pub reach-lines : (table : Part) → afterLines body d at table .reach ≡ at + lineWidth at table
+  reach-lines absent = omega (arith, e)
+  reach-lines (present l) = reach-visited body d (at + padding at) _ (omega arith) (omega (arith, e)) ∙ omega arith
+
+-- ---- the numbers at a place that was sought
 
 module _ (s : List ℕ) where
-  go : (d : Cursor) (to : ℕ) → to ≤ length s → sought s (At d) to ≡ At (moved d to)
-  go d to h = sym (seek-got s (At d) to d refl h)
-
-  -- back to where the parts began
-  home : (a d : Cursor) (to : ℕ) → d .pos ≡ to → to ≤ length s → sought s (At a) to ≡ At d
-  unfolding moved
-  home a d to e h = go a to h ∙ ap (λ (k : ℕ). At (record { pos = k })) (sym e)
-
   there : (d : Cursor) (to : ℕ) (xs : List ℕ) → Holds s to xs → Holds s (moved d to .pos) xs
   there d to xs a = rw pos-moved a
 
@@ -115,29 +161,35 @@ module _ (s : List ℕ) where
   -- and so they stand there
   pub numbers-stand : (order : ByteOrder) (w at : ℕ) (l : List ℕ) → Fits w l → Holds s at (bytesOfAll order w l) → numbersAt order w (length l) s at ≡ l
   numbers-stand order w at l f a =
-      let c : Cursor = record { pos = at } in
       let h : at + w * length l ≤ length s = rw (← length-all order w l) (holds-fits (bytesOfAll order w l) a) in
-      sym (ap (λ (t : Taken (List ℕ)). t .value) (numbers-here order w s (length l) c h)) ∙ ap (λ (t : Taken (List ℕ)). t .value) (numbers-from order w c l f a)
+      let b : Holds s (start at .pos) (bytesOfAll order w l) = rw pos-start a in
+      sym (numbers-start order w (length l) s at h) ∙ ap (λ (t : Taken (List ℕ)). t .value) (numbers-from order w (start at) l f b)
 
--- ---- each part, from a cursor d at B + 160
+-- ---- each part, from any cursor d
 
-module _ (s : List ℕ) (order : ByteOrder) (body : ℕ) (d : Cursor) (e : d .pos ≡ body + 160) (low : 8 ≤ body) (fit : body + 160 ≤ length s) where
+module _ (s : List ℕ) (order : ByteOrder) (body : ℕ) (d : Cursor) (low : 8 ≤ body) (fit : body + 160 ≤ length s) where
+  home : (a : Cursor) → sought s (At a) (body + 160) ≡ At (moved a (body + 160))
+  home a = seek-to s a (body + 160) (body + 160) refl fit
+
   pub text-back : (long : ℕ) (found : Part) → GoodText long found → Bounded 2 found → Holds s (placeOf body 168) (encodeText order found)
       → _≡_ {A = TextTaken} (textTaken order s (At d) body (textOffset found) long)
-      (record { text = readText found; place = textPlace body found; then = At d })
+      (record { text = readText found; place = textPlace body found; then = At (afterText body d found) })
   unfolding textTaken textAt unlessRefused
   text-back long absent g b h = refl
   text-back long (present u) g b h =
       let l : placeOf body 168 ≤ length s = omega (arith, holds-fits (bytesOfAll order 2 u) h) in
       rw (
         ← g .0,
-        go s d (placeOf body 168) l,
+        seek-to s d (placeOf body 168) (placeOf body 168) refl l,
         numbers-from s order 2 (moved d (placeOf body 168)) u (fits 2 u b) (there s d (placeOf body 168) (bytesOfAll order 2 u) h),
         g .1,
-        home s (advanced (moved d (placeOf body 168)) (2 * length u)) d (body + 160) e fit,
+        home (advanced (moved d (placeOf body 168)) (2 * length u)),
       )
 
   module _ (at end : ℕ) (w : at ≡ placeOf body end) (pos : 0 < end) where
+    go : at + padding at ≤ length s → sought s (At d) (placeOf body (end + padding at)) ≡ At (moved d (at + padding at))
+    go h = seek-to s d (placeOf body (end + padding at)) (at + padding at) (omega arith) h
+
     moves : placeOf body (end + padding at) ≡ at + padding at
     moves = omega arith
 
@@ -145,7 +197,7 @@ module _ (s : List ℕ) (order : ByteOrder) (body : ℕ) (d : Cursor) (e : d .po
     some = ne-eqb (end + padding at) 0 (λ z. omega arith)
 
     pub label-read : (name : Part) → GoodLabel name → Holds s at (encodeLabel at name)
-        → _≡_ {A = LabelTaken} (labelTaken s (At d) body (partOffset at end name)) (record { label = readLabel at name; then = At d })
+        → _≡_ {A = LabelTaken} (labelTaken s (At d) body (partOffset at end name)) (record { label = readLabel at name; then = At (afterLabel body d at name) })
     unfolding labelTaken labelAt
     label-read absent g h = refl
     label-read (present bytes) g h =
@@ -153,15 +205,15 @@ module _ (s : List ℕ) (order : ByteOrder) (body : ℕ) (d : Cursor) (e : d .po
         let l : at + padding at ≤ length s = omega (arith, holds-fits (bytes ++ (0 ∷ [])) k) in
         rw (
           some,
+          go l,
           moves,
-          go s d (at + padding at) l,
           label-back (moved d (at + padding at)) bytes (g .0) (there s d (at + padding at) (bytes ++ (0 ∷ [])) k),
-          home s (advanced (moved d (at + padding at)) (length bytes + 1)) d (body + 160) e fit,
+          home (advanced (moved d (at + padding at)) (length bytes + 1)),
         )
 
     pub lines-read : (line : Bool) (table : Part) → GoodLines table → Set table line → Bounded 4 table → Holds s at (encodeLines order at table)
         → _≡_ {A = LinesTaken} (linesTaken order s (At d) body line (partOffset at end table))
-        (record { «line_table» = readTable table; place = tablePlace at table; then = At d })
+        (record { «line_table» = readTable table; place = tablePlace at table; then = At (afterLines body d at table) })
     unfolding linesTaken linesAt
     lines-read line absent g b f h = rw (and-none line)
     lines-read line (present l) g b f h =
@@ -181,10 +233,12 @@ module _ (s : List ℕ) (order : ByteOrder) (body : ℕ) (d : Cursor) (e : d .po
         rw (
           b,
           some,
+          go r,
           moves,
-          go s d (at + padding at) r,
           a₀,
           a₁,
           a₂,
-          home s (advanced c₂ (4 * n)) d (body + 160) e fit,
+          home (advanced c₂ (4 * n)),
+          advanced-more c₁ (4 * n) (4 * n),
+          advanced-more m 1 (4 * n + 4 * n),
         )

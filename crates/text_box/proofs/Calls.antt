@@ -11,6 +11,7 @@ use Rattle.core.specs.declared.cursor.ByteOrder.{ByteOrder}
 use Rattle.core.specs.declared.cursor.Cursor.{Cursor}
 use Rattle.core.specs.declared.cursor.Place.{Place}
 use Rattle.core.specs.declared.cursor.Place.the-variants.{At, Refused}
+use Rattle.core_checks.specs.declared.checks.Parsed.{Parsed}
 use Rattle.core_checks.specs.declared.checks.Parsed.the-variants as Parseds
 use Rattle.core.proofs.Runs.{cleared}
 use Rattle.core_checks.proofs.Checked.{BodyOk, body-started, length-cleared, body-cleared, list-cleared, end-cleared}
@@ -82,10 +83,10 @@ module _ (order : ByteOrder) (s : List ℕ) (p : Place) (body : ℕ) (b : PaneTa
       let a : t .then ≡ At c = texts-cleared (t .then) (b .pane) body c (sym g ∙ label-cleared q s (t .«text_box» .label) c (sym h ∙ k)) in
       rw f (text-box-came order s (b .then) body c (ap (λ (z : TextBoxTaken). z .then) (sym f) ∙ a))
 
-  pub read-got : (c : Cursor) → then ≡ At c → (u u₀ l l₀ : List ℕ) → u ≡ over (textBoxUnits order s t) u₀ → l ≡ over (textBoxLines order s t) l₀
-      → Reads order s p body u₀ l₀ (record { answer = Parseds.Read (c .pos); base = b .pane; «text_box» = t .«text_box» }) u l
-  unfolding textBoxRead unitsAfter linesAfter parsedOf unlessRefused
-  read-got c k u u₀ l l₀ i j = rw (end-is, own-is, ← e, k) (refl, i, j)
+  pub read-got : (c : Cursor) → then ≡ At c → (answer : Parsed) → answer ≡ parsedOf (At c) → (u u₀ l l₀ : List ℕ) → u ≡ over (textBoxUnits order s t) u₀ → l ≡ over (textBoxLines order s t) l₀
+      → Reads order s p body u₀ l₀ (record { answer = answer; base = b .pane; «text_box» = t .«text_box» }) u l
+  unfolding textBoxRead unitsAfter linesAfter unlessRefused
+  read-got c k answer z u u₀ l l₀ i j = rw (end-is, own-is, ← e, k, z) (refl, i, j)
 
   pub read-refused : (why : Refusal) → then ≡ Refused why → (r : TextBoxParsed) → Blank why r → (u l : List ℕ) → Reads order s p body u l r u l
   read-refused why k r z u l = refused-at order s p body why (end-is ∙ k) r z u l

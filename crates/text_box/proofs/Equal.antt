@@ -6,11 +6,13 @@ use mathlib.Core.Bool.{Bool, not}
 use mathlib.Core.List.{List, [], _∷_, _++_}
 use lib.ListN.{length, length-replicate, replicate}
 use Rattle.core.specs.Bytes.{bytesOf, bytesOfAll, padding, part}
+use Rattle.core.specs.Taken.{advanced}
 use Rattle.core.specs.Lists.{numbersAt}
 use Rattle.core.specs.declared.cursor.ByteOrder.{ByteOrder}
 use Rattle.core.specs.declared.cursor.Cursor.{Cursor}
 use Rattle.core.specs.declared.cursor.Place.the-variants.{At}
 use Rattle.core.proofs.Numbers.{length-bytes}
+use Rattle.core.proofs.Cursors.{pos-advanced, reach-level}
 use Rattle.core.proofs.Runs.{passed}
 use Rattle.core.proofs.Back.{Holds, split, holds-left, holds-fits, holds-part, length-all}
 use Rattle.utf8.specs.Utf8.{wellFormed}
@@ -24,7 +26,7 @@ use Rattle.text_box_read.specs.declared.TextBoxTaken.{TextBoxTaken}
 use Rattle.text_box_parts.specs.Parts.{placeOf, Part, absent, present, textPart, labelPart, linePart, column, unitsOf, linesOf}
 use Rattle.text_box_read.specs.TextBox.{textBoxUnits, textBoxLines}
 use Rattle.text_box_read.specs.TextBox.{textBoxTaken}
-use Rattle.text_box_write.specs.Written.{textEnd, labelEnd, encodeText, encodeLabel, encodeLines, encodeTextBox}
+use Rattle.text_box_write.specs.Written.{textEnd, labelEnd, encodeText, encodeLabel, encodeLines, encodeTextBox, textBoxLength}
 use Rattle.text_box_caption.specs.Caption.{labelOf}
 use Rattle.text_box_checks.specs.Checks.{labelChecked}
 use Rattle.text_box.specs.Same.{SameTextBox}
@@ -33,7 +35,7 @@ use Rattle.text_box_caption.proofs.Captions.{inside}
 use Rattle.text_box_write.proofs.Columns.{length-column, lines-back}
 use Rattle.text_box.proofs.Cleared.{GoodText, GoodLabel, GoodLines, GoodBit, GoodTextBox}
 use Rattle.text_box.proofs.Back.{Below, Bounded, Set, fits, fits-column, numbers-stand, readText, textPlace, readLabel, readTable, tablePlace}
-use Rattle.text_box.proofs.Whole.{partsTaken, parts-read, the-text, the-label, the-lines}
+use Rattle.text_box.proofs.Whole.{partsTaken, afterParts, pos-parts, reach-parts, parts-read, the-text, the-label, the-lines}
 
 -- ---- each part as it stands in the bytes
 
@@ -85,6 +87,25 @@ bounded-lines (lines.Present count) l b = b
 -- what reading a text box that was written at B gives
 unfoldable pub readBack : ℕ → Cursor → TextBoxPane → List ℕ → List ℕ → List ℕ → TextBoxTaken
 readBack body c x units lines label = partsTaken body c x (textPart (x .text) units) (labelPart (x .label) label) (linePart (x .«line_table») lines)
+
+-- where the run stands then: at the end of the fixed bytes, and it has looked at all that was written
+unfoldable pub afterBox : ℕ → Cursor → TextBoxPane → List ℕ → List ℕ → List ℕ → Cursor
+afterBox body c x units lines label = afterParts body (advanced c 84) (textPart (x .text) units) (labelPart (x .label) label) (linePart (x .«line_table») lines)
+
+module _ (body : ℕ) (c : Cursor) (x : TextBoxPane) (units lines label : List ℕ) where
+  pub then-back : readBack body c x units lines label .then ≡ At (afterBox body c x units lines label)
+  unfolding readBack afterBox
+  then-back = refl
+
+  pub pos-box : c .pos ≡ body + 76 → afterBox body c x units lines label .pos ≡ body + 160
+  unfolding afterBox
+  pos-box here =
+      pos-parts body (advanced c 84) (pos-advanced c 84 ∙ omega (arith, here)) (textPart (x .text) units) (labelPart (x .label) label) (linePart (x .«line_table») lines)
+
+  pub reach-box : 8 ≤ body → c .pos ≡ body + 76 → c .reach ≡ c .pos → afterBox body c x units lines label .reach ≡ body + 76 + textBoxLength body x units lines label
+  unfolding afterBox textBoxLength
+  reach-box low here level =
+      reach-parts body (advanced c 84) low (reach-level c level 84 ∙ omega (arith, here)) (textPart (x .text) units) (labelPart (x .label) label) (linePart (x .«line_table») lines)
 
 module _ (s : List ℕ) (c : Cursor) (order : ByteOrder) (body : ℕ) (here : c .pos ≡ body + 76) (low : 8 ≤ body) (x : TextBoxPane) (units lines label : List ℕ)
     (t : TypedTextBox x) (g : GoodTextBox x units lines label) (bu : Below 2 units) (bl : Below 4 lines)

@@ -9,7 +9,7 @@ use Rattle.core.specs.declared.cursor.ByteOrder.{ByteOrder}
 use Rattle.core.specs.declared.cursor.Cursor.{Cursor}
 use Rattle.core.specs.declared.cursor.Place.the-variants.{At}
 use Rattle.core.proofs.Numbers.{length-bytes}
-use Rattle.core.proofs.Cursors.{pos-advanced, advanced-zero}
+use Rattle.core.proofs.Cursors.{advanced-zero}
 use Rattle.core_write.proofs.Padding.{padding-small}
 use Rattle.core.proofs.Back.{Holds, split, holds-fits, length-all}
 use Rattle.text_box_read.specs.declared.FontMeasure.{FontMeasure}
@@ -25,7 +25,7 @@ use Rattle.text_box_read.specs.Typed.{TypedTextBox}
 use Rattle.text_box_write.proofs.Columns.{length-column}
 use Rattle.text_box.proofs.Cleared.{GoodText, GoodLabel, GoodLines}
 use Rattle.text_box.proofs.FixedBack.{length-fixed, FixedBack, fixed-back}
-use Rattle.text_box.proofs.Back.{Bounded, Set, readText, textPlace, readLabel, readTable, tablePlace, text-back, label-read, lines-read}
+use Rattle.text_box.proofs.Back.{Bounded, Set, readText, textPlace, readLabel, readTable, tablePlace, afterText, afterLabel, afterLines, pos-text, pos-label, pos-lines, reach-text, reach-label, reach-lines, text-back, label-read, lines-read}
 use Rattle.utf8.proofs.Tests.{and-none}
 
 -- ---- lengths
@@ -99,12 +99,29 @@ partsBack body x found name table = record {
   «line_table» = readTable table;
 }
 
+-- where the run stands after the parts, from a cursor at B + 160
+abbrev pub afterParts : ℕ → Cursor → Part → Part → Part → Cursor
+afterParts body d found name table =
+    afterLines body (afterLabel body (afterText body d found) (placeOf body (textEnd found)) name) (placeOf body (labelEnd body found name)) table
+
+pub pos-parts : (body : ℕ) (d : Cursor) → d .pos ≡ body + 160 → (found name table : Part) → afterParts body d found name table .pos ≡ body + 160
+pos-parts body d e found name table = pos-lines body _ (pos-label body _ (pos-text body d e found) _ name) _ table
+
+-- it has looked at all that was written
+pub reach-parts : (body : ℕ) (d : Cursor) → 8 ≤ body → d .reach ≡ body + 160 → (found name table : Part)
+    → afterParts body d found name table .reach ≡ body + 76 + partsLength body found name table
+reach-parts body d low e found name table =
+    let a = reach-text body d (placeOf body 168) (omega (arith, e)) refl found in
+    let b = reach-label body (afterText body d found) (placeOf body (textEnd found)) (omega (arith, a)) name in
+    let t = reach-lines body (afterLabel body (afterText body d found) (placeOf body (textEnd found)) name) (placeOf body (labelEnd body found name)) (omega (arith, b)) table in
+    omega (arith, t)
+
 abbrev pub partsTaken : ℕ → Cursor → TextBoxPane → Part → Part → Part → TextBoxTaken
 partsTaken body c x found name table = record {
   «text_box» = partsBack body x found name table;
   «text_place» = textPlace body found;
   «lines_place» = tablePlace (placeOf body (labelEnd body found name)) table;
-  then = At (advanced c 84);
+  then = At (afterParts body (advanced c 84) found name table);
 }
 
 measure-back : (m : FontMeasure) → fontMeasureOf (measureKind m) (measureVector m) ≡ m
@@ -159,15 +176,15 @@ module _ (s : List ℕ) (c : Cursor) (order : ByteOrder) (body : ℕ) (here : c 
   parts-from : textBoxTaken order s (At (advanced c 0)) body ≡ partsTaken body c x found name table
   unfolding textBoxTaken assembled perCharacterChecked stopIf
   parts-from =
-      let e : advanced c 84 .pos ≡ body + 160 = pos-advanced c 84 ∙ omega (arith, here) in
+      let d : Cursor = advanced c 84 in
       let f : body + 160 ≤ length s = omega (arith, holds-fits (encodeText order found) the-text) in
       rw (
         the-fixed .head,
         the-fixed .font,
         the-fixed .shadow,
-        text-back s order body (advanced c 84) e low f (x .«text_length») found gt bu the-text,
-        label-read s order body (advanced c 84) e low f (placeOf body (textEnd found)) (textEnd found) refl (omega arith) name gn the-label,
-        lines-read s order body (advanced c 84) e low f (placeOf body (labelEnd body found name)) (labelEnd body found name) refl (omega arith)
+        text-back s order body d low f (x .«text_length») found gt bu the-text,
+        label-read s order body (afterText body d found) low f (placeOf body (textEnd found)) (textEnd found) refl (omega arith) name gn the-label,
+        lines-read s order body (afterLabel body (afterText body d found) (placeOf body (textEnd found)) name) low f (placeOf body (labelEnd body found name)) (labelEnd body found name) refl (omega arith)
             (x .«text_flags» .«is_line_transform») table gl bit bl the-lines,
         and-none (x .«text_flags» .«is_per_character_transform»),
         measure-back (x .«font_measure»),

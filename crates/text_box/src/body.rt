@@ -60,10 +60,10 @@ pub fn read(
     let then = text_box_checks::label_checked(p3, data, label);
     match then {
         Place::At(c) => {
-            let end = c.pos;
             text_box_read::fill_text_box(order, data, own, units, lines);
+            let answer = core_checks::checks::read_to(c);
             TextBoxParsed {
-                answer: Parsed::Read { end },
+                answer,
                 base,
                 text_box,
             }

@@ -103,8 +103,8 @@ fn label_at(data: &[u8], p: Place, at: usize, end: usize) -> LabelTaken
 {
     let p1 = cursor::seek(data, p, at);
     let taken = text::take_label(data, p1);
-    let p2 = taken.then;
-    let then = cursor::seek(data, p2, end);
+    let after = taken.then;
+    let then = cursor::seek(data, after, end);
     LabelTaken {
         label: Label::At {
             place: at,

@@ -52,7 +52,7 @@ after p r = placeAfter p (r .answer)
 module _ (n p next : ℕ) (m : (p + 8 ≤ next) × (next ≤ n)) where
   finished-moved : (a : Parsed) (r : Record) → Moved n p (after p (finished a next r))
   unfolding finished refusedWith placeAfter
-  finished-moved (Parseds.Read end) r = inr m
+  finished-moved (Parseds.Read end reach) r = inr m
   finished-moved (Parseds.Refused why) r = inl refl
 
   kind-moved : (order : ByteOrder) (k : KindFound) (s : List ℕ) (c : Place) (body : ℕ) → Moved n p (after p (byKind order k s c body next))

@@ -13,7 +13,7 @@ use Rattle.walk.specs.declared.Step.{Step}
 unfoldable pub placeAfter : ℕ → Section → ℕ
 placeAfter p End = p
 placeAfter p (Passed next) = next
-placeAfter p (Pane end next) = next
+placeAfter p (Pane end next reach) = next
 placeAfter p (Refused why) = p
 
 -- THE STEP OF A WALK whose place is p: the section read at p of the strip s, with the lists l lent, and the place after it

@@ -25,7 +25,11 @@ fn place_after(place: usize, answer: Section) -> usize
     match answer {
         Section::End => place,
         Section::Passed { next } => next,
-        Section::Pane { end: _, next } => next,
+        Section::Pane {
+            end: _,
+            next,
+            reach: _,
+        } => next,
         Section::Refused(_) => place,
     }
 }

@@ -1,23 +1,24 @@
 -- A window that a write lets through is read back, anywhere in a buffer.
 use mathlib.Core.Path.{_≡_, refl, ap, _∙_, subst}
-use Prim.Native.Nat.{ℕ, zero, suc, _+_, _-_, _*_, _/_, _^_, _≤_, _<_}
-use native.Mathlib.Nat.{add-zero}
+use Prim.Native.Nat.{ℕ, zero, suc, _+_, _-_, _*_, _/_, _%_, _^_, _≤_, _<_}
+use native.Mathlib.Nat.{add-zero, add-assoc}
 use native.Mathlib.Omega.{arith}
 use mathlib.Core.List.{List}
 use lib.ListN.{length, replicate, length-replicate}
 use Rattle.core.specs.Bytes.{bytesOfAll}
-use Rattle.core.specs.Taken.{Taken, advanced, sought}
+use Rattle.core.specs.Taken.{Taken, advanced, moved, sought}
 use Rattle.core.specs.Lists.{numbersTaken}
 use Rattle.core.specs.declared.cursor.ByteOrder.{ByteOrder}
 use Rattle.core.specs.declared.cursor.Cursor.{Cursor}
 use Rattle.core.specs.declared.cursor.Place.{Place}
 use Rattle.core.specs.declared.cursor.Place.the-variants.{At}
-use Rattle.core.proofs.Cursors.{advanced-zero}
-use Rattle.core.proofs.Back.{Holds, Fit, holds-fits, length-all, cut}
-use Rattle.core_write.proofs.Padding.{padding-small}
+use Rattle.core.proofs.Cursors.{pos-advanced, pos-moved, advanced-zero, reach-moved, reach-level}
+use Rattle.core.proofs.Runs.{seek-to, seek-here}
+use Rattle.core.proofs.Back.{Holds, Fit, holds-fits, length-all, cut, numbers-back}
+use Rattle.core_write.proofs.Padding.{padding-small, padding-none}
 use Rattle.window_read.specs.Window.{contentTaken, framesTaken, windowOf, windowTaken, windowQuads, windowFrames}
 use Rattle.window_head.specs.Head.{headTaken}
-use Rattle.window_write.specs.Write.{GoodWindow, contentPadding, tableOffset, encodeHead, encodeContent, frameOffsets, encodeFrames, encodeWindow}
+use Rattle.window_write.specs.Write.{GoodWindow, contentPadding, tableOffset, windowLength, encodeHead, encodeContent, frameOffsets, encodeFrames, encodeWindow}
 use Rattle.window.specs.Same.{SameWindow}
 use Rattle.window_read.specs.Typed.{TypedWindow}
 use Rattle.window_read.specs.declared.WindowPane.{WindowPane}
@@ -25,7 +26,7 @@ use Rattle.window_head.specs.declared.HeadTaken.{HeadTaken}
 use Rattle.window_read.specs.declared.read.ContentTaken.{ContentTaken}
 use Rattle.window_read.specs.declared.read.WindowTaken.{WindowTaken}
 use Rattle.window.proofs.Lengths.{length-offsets, length-head, length-content}
-use Rattle.window.proofs.Fields.{readBackContent, frames-fit, headOf, seek-at, numbers-at, head-at, content-at, frames-at}
+use Rattle.window.proofs.Fields.{readBackContent, frames-fit, headOf, numbers-at, head-at, content-at, frames-at}
 use Rattle.ui2d.proofs.QuadRuns.{count-fit, eight}
 
 -- what reading a window that was written gives: the same, with the counts of its lists
@@ -85,11 +86,11 @@ small : (body q f : ℕ) → q ≤ 2040 → f ≤ 510 → tableOffset body q + 4
 unfolding tableOffset contentPadding
 small body q f h k = omega (arith, padding-small (body + 124 + 4 * q))
 
-table-at : {s : List ℕ} (c : Cursor) (order : ByteOrder) (k a n : ℕ) → Fit 4 (frameOffsets a n) → Holds s (c .pos + k) (bytesOfAll order 4 (frameOffsets a n))
-    → _≡_ {A = Taken (List ℕ)} (numbersTaken order 4 n s (At (advanced c k))) (record { value = frameOffsets a n; then = At (advanced c (k + 4 * n)) })
-table-at {s} c order k a n f h =
-    subst (λ (m : ℕ). _≡_ {A = Taken (List ℕ)} (numbersTaken order 4 m s (At (advanced c k))) (record { value = frameOffsets a n; then = At (advanced c (k + 4 * m)) }))
-    (length-offsets a n) (numbers-at c order k 4 (frameOffsets a n) f h)
+table-at : {s : List ℕ} (d : Cursor) (order : ByteOrder) (a n : ℕ) → Fit 4 (frameOffsets a n) → Holds s (d .pos) (bytesOfAll order 4 (frameOffsets a n))
+    → _≡_ {A = Taken (List ℕ)} (numbersTaken order 4 n s (At d)) (record { value = frameOffsets a n; then = At (advanced d (4 * n)) })
+table-at {s} d order a n f h =
+    subst (λ (m : ℕ). _≡_ {A = Taken (List ℕ)} (numbersTaken order 4 m s (At d)) (record { value = frameOffsets a n; then = At (advanced d (4 * m)) }))
+    (length-offsets a n) (numbers-back d order 4 (frameOffsets a n) f h)
 
 offsets-fit : (a n : ℕ) → a + 4 * n < 256 ^ 4 → Fit 4 (frameOffsets a n)
 unfolding frameOffsets Fit
@@ -102,6 +103,26 @@ tablePlace body q = 28 + (20 + 4 * q) + contentPadding body q
 
 abbrev pub framesPlace : ℕ → ℕ → ℕ → ℕ
 framesPlace body q f = tablePlace body q + 4 * (f / 2)
+
+-- the cursor at the table, which is sought from the end of the quads: the padding between them is not read
+abbrev pub atTable : Cursor → ℕ → ℕ → Cursor
+atTable c body q = moved (advanced c (48 + 4 * q)) (c .pos + tablePlace body q)
+
+-- and after the whole, back at the end of the fixed bytes
+abbrev pub afterWindow : Cursor → ℕ → ℕ → ℕ → Cursor
+afterWindow c body q f = moved (advanced (atTable c body q) (4 * (f / 2) + 4 * (f / 2))) (body + 104)
+
+-- it has looked at all that was written of a body at a multiple of 4, where nothing is padded
+pub reach-window : (c : Cursor) (body q f : ℕ) → c .reach ≡ c .pos → c .pos ≡ body + 76 → body % 4 ≡ 0
+    → afterWindow c body q f .reach ≡ body + 76 + windowLength body q f
+unfolding windowLength contentPadding
+reach-window c body q f level here whole =
+    let n : ℕ = 4 * (f / 2) + 4 * (f / 2) in
+    let d : Cursor = atTable c body q in
+    let none = padding-none (body + 124 + 4 * q) (omega arith) in
+    let p = pos-moved (advanced c (48 + 4 * q)) (c .pos + tablePlace body q) in
+    let r = reach-moved (advanced c (48 + 4 * q)) (c .pos + tablePlace body q) ∙ reach-level c level (48 + 4 * q) in
+    reach-moved (advanced d n) (body + 104) ∙ reach-level d (omega (arith, none, p, r)) n ∙ omega (arith, none, p, here)
 
 record Parts (s : List ℕ) (c : Cursor) (order : ByteOrder) (body : ℕ) (x : WindowPane) (q f : List ℕ) : Type 0 where
   head : Holds s (c .pos + 0) (encodeHead order x (length f / 2) (tableOffset body (length q)))
@@ -139,56 +160,60 @@ module _ {s : List ℕ} (c : Cursor) (order : ByteOrder) (body : ℕ) (x : Windo
       (record { value = quads; then = At (advanced c (48 + 4 * length quads)) })
   quads-here = rw (eight (length quads) (g .«whole-quads»)) (numbers-at c order 48 4 quads fq (content-here .1))
 
-  table-here : _≡_ {A = Taken (List ℕ)} (numbersTaken order 4 (length frames / 2) s (At (advanced c (tablePlace body (length quads)))))
+  table-here : _≡_ {A = Taken (List ℕ)} (numbersTaken order 4 (length frames / 2) s (At (atTable c body (length quads))))
       (record {
         value = frameOffsets (tableOffset body (length quads) + 4 * (length frames / 2)) (length frames / 2);
-        then = At (advanced c (framesPlace body (length quads) (length frames)));
+        then = At (advanced (atTable c body (length quads)) (4 * (length frames / 2)));
       })
   unfolding tableOffset
   table-here =
       let m = length frames / 2 in
       let first = tableOffset body (length quads) + 4 * m in
       let f : Fit 4 (frameOffsets first m) = offsets-fit first m (small body (length quads) (length frames) (g .«most-quads») (g .«most-frames»)) in
-      table-at c order (tablePlace body (length quads)) first m f (at-parts .table)
+      table-at (atTable c body (length quads)) order first m f (rw pos-moved (at-parts .table))
 
   frames-here : _≡_ {A = Taken (List ℕ)}
-      (framesTaken order s (body - 8) (frameOffsets (tableOffset body (length quads) + 4 * (length frames / 2)) (length frames / 2)) (At (advanced c (framesPlace body (length quads) (length frames)))))
-      (record { value = frames; then = At (advanced c (framesPlace body (length quads) (length frames) + 4 * (length frames / 2))) })
+      (framesTaken order s (body - 8) (frameOffsets (tableOffset body (length quads) + 4 * (length frames / 2)) (length frames / 2)) (At (advanced (atTable c body (length quads)) (4 * (length frames / 2)))))
+      (record { value = frames; then = At (advanced (atTable c body (length quads)) (4 * (length frames / 2) + 4 * (length frames / 2))) })
   unfolding tableOffset
   frames-here =
-      frames-at c order (framesPlace body (length quads) (length frames)) (body - 8) (tableOffset body (length quads) + 4 * (length frames / 2)) frames
-      (omega (arith, here, low)) ff (g .flips) (g .«whole-frames») (at-parts .frames)
+      let m = length frames / 2 in
+      let d = atTable c body (length quads) in
+      let e = pos-moved (advanced c (48 + 4 * length quads)) (c .pos + tablePlace body (length quads)) in
+      let h : Holds s (d .pos + 4 * m) (encodeFrames order frames) = rw (e, add-assoc) (at-parts .frames) in
+      frames-at d order (4 * m) (body - 8) (tableOffset body (length quads) + 4 * m) frames (omega (arith, e, here, low)) ff (g .flips) (g .«whole-frames») h
 
   -- THE WINDOW
   pub window-back : _≡_ {A = WindowTaken} (windowTaken order s (At c) body) (record {
     window = readBackWindow x quads frames;
     quads = At (advanced c 48);
-    table = At (advanced c (tablePlace body (length quads)));
-    frames = At (advanced c (framesPlace body (length quads) (length frames)));
-    then = At (advanced c 28);
+    table = At (atTable c body (length quads));
+    frames = At (advanced (atTable c body (length quads)) (4 * (length frames / 2)));
+    then = At (afterWindow c body (length quads) (length frames));
   })
   unfolding windowOf readBackWindow readBackContent tableOffset
   window-back =
       let m = length frames / 2 in
       let k = tablePlace body (length quads) in
+      let d = atTable c body (length quads) in
       let end = holds-fits _ (at-parts .frames) in
       let fit : tableOffset body (length quads) + 4 * m + 4 * m < 256 ^ 4 = small body (length quads) (length frames) (g .«most-quads») (g .«most-frames») in
       window-run order s (At c) body (record { value = headOf x m (tableOffset body (length quads)); then = At (advanced c 28) })
       (record { value = readBackContent (x .content) quads; then = At (advanced c 48) })
       (record { value = quads; then = At (advanced c (48 + 4 * length quads)) })
-      (record { value = frameOffsets (tableOffset body (length quads) + 4 * m) m; then = At (advanced c (k + 4 * m)) })
-      (record { value = frames; then = At (advanced c (k + 4 * m + 4 * m)) })
+      (record { value = frameOffsets (tableOffset body (length quads) + 4 * m) m; then = At (advanced d (4 * m)) })
+      (record { value = frames; then = At (advanced d (4 * m + 4 * m)) })
       (At (advanced c 28))
-      (At (advanced c k))
-      (At (advanced c 28))
+      (At d)
+      (At (afterWindow c body (length quads) (length frames)))
       (rw (advanced-zero c) at (head-at c order x m (tableOffset body (length quads)) t (frames-fit (length frames) (g .«most-frames»)) (omega (arith, fit)) (at-parts .head)))
-      (seek-at s c 28 (body - 8 + 112) (advanced c 28) (omega (arith, here, low)) (omega (arith, end)))
+      (seek-here s (advanced c 28) (body - 8 + 112) (omega (arith, pos-advanced c 28, here, low)) (omega (arith, pos-advanced c 28, end)))
       (content-here .0)
       quads-here
-      (seek-at s c k (body - 8 + tableOffset body (length quads)) (advanced c (48 + 4 * length quads)) (omega (arith, here, low)) (omega (arith, end)))
+      (seek-to s (advanced c (48 + 4 * length quads)) (body - 8 + tableOffset body (length quads)) (c .pos + k) (omega (arith, here, low)) (omega (arith, end)))
       table-here
       frames-here
-      (seek-at s c 28 (body + 104) (advanced c (k + 4 * m + 4 * m)) (omega (arith, here)) (omega (arith, end)))
+      (seek-to s (advanced d (4 * m + 4 * m)) (body + 104) (body + 104) refl (omega (arith, here, end)))
 
   -- the numbers of its lists
   pub quads-back : windowQuads order s (windowTaken order s (At c) body) ≡ quads
@@ -199,7 +224,7 @@ module _ {s : List ℕ} (c : Cursor) (order : ByteOrder) (body : ℕ) (x : Windo
   unfolding windowFrames readBackWindow
   frames-back =
       ap (λ (w : WindowTaken). windowFrames order s w body) window-back
-      ∙ ap (λ (r : Taken (List ℕ)). framesTaken order s (body - 8) (r .value) (At (advanced c (framesPlace body (length quads) (length frames)))) .value) table-here
+      ∙ ap (λ (r : Taken (List ℕ)). framesTaken order s (body - 8) (r .value) (At (advanced (atTable c body (length quads)) (4 * (length frames / 2)))) .value) table-here
       ∙ ap (λ (r : Taken (List ℕ)). r .value) frames-here
 
   -- what was read is equal to what was written

@@ -12,6 +12,7 @@ use Rattle.core.specs.declared.cursor.ByteOrder.{ByteOrder}
 use Rattle.core.specs.declared.cursor.Cursor.{Cursor}
 use Rattle.core.specs.declared.cursor.Place.{Place}
 use Rattle.core.specs.declared.cursor.Place.the-variants.{At, Refused}
+use Rattle.core_checks.specs.declared.checks.Parsed.{Parsed}
 use Rattle.core_checks.specs.declared.checks.Parsed.the-variants as Parseds
 use Rattle.core_checks.proofs.Checked.{BodyOk, body-started, list-cleared, end-cleared, end-stays}
 use Rattle.pane_read.specs.Pane.{paneTaken}
@@ -44,10 +45,10 @@ module _ (order : ByteOrder) (s : List ℕ) (p : Place) (body : ℕ) (b : PaneTa
       subst (λ (t : WindowTaken). Ahead s (t .quads) (4 * (8 * t .window .content .«quad_count»))) (sym f)
       (window-ahead order s (b .then) body c (ap (λ (t : WindowTaken). t .then) (sym f) ∙ k))
 
-  pub read-got : (c : Cursor) (quads frames quads′ frames′ : List ℕ) → q ≡ At c → quads′ ≡ over (windowQuads order s w) quads → frames′ ≡ over (windowFrames order s w body) frames
-      → Left order s p body quads frames (record { answer = Parseds.Read (c .pos); base = b .pane; window = w .window }) quads′ frames′
-  unfolding windowRead readQuads readFrames readPlace ownTaken parsedOf unlessRefused
-  read-got c quads frames quads′ frames′ h k l = rw (← e, ← f, ← g, h, k, l) (refl, (refl, refl))
+  pub read-got : (c : Cursor) (quads frames quads′ frames′ : List ℕ) → q ≡ At c → (answer : Parsed) → answer ≡ parsedOf (At c) → quads′ ≡ over (windowQuads order s w) quads → frames′ ≡ over (windowFrames order s w body) frames
+      → Left order s p body quads frames (record { answer = answer; base = b .pane; window = w .window }) quads′ frames′
+  unfolding windowRead readQuads readFrames readPlace ownTaken unlessRefused
+  read-got c quads frames quads′ frames′ h answer a k l = rw (← e, ← f, ← g, h, a, k, l) (refl, (refl, refl))
 
   pub read-refused : (why : Refusal) (quads frames : List ℕ) → q ≡ Refused why → (r : WindowParsed) → Blank why r → Left order s p body quads frames r quads frames
   unfolding windowRead readQuads readFrames readPlace ownTaken parsedOf unlessRefused

@@ -10,14 +10,14 @@ use lib.Dec.{lit≤}
 use mir.Syntax.{w16}
 use mir.Val.{SFits}
 use Rattle.core.specs.Bytes.{bytesOfAll, bitsOf}
-use Rattle.core.specs.Taken.{Taken, advanced, moved, sought}
+use Rattle.core.specs.Taken.{Taken, advanced}
 use Rattle.core.specs.Lists.{numbersTaken}
 use Rattle.core.specs.declared.cursor.ByteOrder.{ByteOrder}
 use Rattle.core.specs.declared.cursor.Cursor.{Cursor}
 use Rattle.core.specs.declared.cursor.Place.the-variants.{At}
 use Rattle.core.proofs.Numbers.{length-bytes}
-use Rattle.core.proofs.Cursors.{advanced-more}
-use Rattle.core.proofs.Runs.{seek-got}
+use Rattle.core.proofs.Cursors.{pos-advanced, advanced-more}
+use Rattle.core.proofs.Runs.{seek-here}
 use Rattle.core.proofs.Back.{Holds, Fit, holds-fits, numbers-back, cut, there, number-at}
 use Rattle.core.proofs.TwosComplement.{bits-fit, signed-bits}
 use Rattle.flags.specs.Enums.{flipOf, flipNumber}
@@ -75,10 +75,6 @@ headOf x n table = record {
   «content_offset» = 112;
   «table_offset» = table;
 }
-
-pub seek-at : (s : List ℕ) (c : Cursor) (k to : ℕ) (d : Cursor) → to ≡ c .pos + k → c .pos + k ≤ length s → sought s (At d) to ≡ At (advanced c k)
-unfolding moved advanced
-seek-at s c k to d e h = sym (seek-got s (At d) to d refl (omega (arith, e, h))) ∙ ap (λ (n : ℕ). At (record { pos = n })) e
 
 module _ {s : List ℕ} (c : Cursor) (order : ByteOrder) where
   pub numbers-at : (k w : ℕ) (l : List ℕ) → Fit w l → Holds s (c .pos + k) (bytesOfAll order w l)
@@ -172,7 +168,7 @@ module _ {s : List ℕ} (c : Cursor) (order : ByteOrder) where
       rw (
         n,
         framesTaken,
-        seek-at s c k (from + a) (advanced c k) e w,
+        seek-here s (advanced c k) (from + a) (e ∙ sym (pos-advanced c k)) (rw pos-advanced w),
         frame-at k m x (f .0) (g .0) b₁,
         frames-at (k + 4) from (a + 4) l (omega (arith, e)) (f .1 .1) (g .1) (omega (arith, h)) b₂,
         flip-number x (g .0),

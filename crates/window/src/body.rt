@@ -64,10 +64,10 @@ pub fn read(
     let then = texts_checked(p2, base, place);
     match then {
         Place::At(c) => {
-            let end = c.pos;
             fill_window(order, data, own, place, quads, frames);
+            let answer = checks::read_to(c);
             WindowParsed {
-                answer: Parsed::Read { end },
+                answer,
                 base,
                 window,
             }

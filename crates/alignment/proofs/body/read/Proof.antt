@@ -15,6 +15,9 @@ texts-checked-requires c κs = search needs
 enum-known-then : tie.Need-enum-known-then
 enum-known-then c = search needs
 
+read-to-requires : tie.Need-read-to-requires
+read-to-requires c κs = search needs
+
 enum-known-then-2 : tie.Need-enum-known-then-2
 enum-known-then-2 c = search needs
 
@@ -23,8 +26,8 @@ refused-requires c κs = search needs
 
 returns : tie.Need-returns
 returns c =
-    let t = c .before .before .before in
-    read-got _ _ _ _ _ _ _ (t .before .before .before .before .take-pane .ensures) (t .before .before .take-alignment .ensures) (t .texts-checked .ensures) _ (c .before .then .given .1)
+    let t = c .before .before .before .before in
+    read-got _ _ _ _ _ _ _ (t .before .before .before .before .take-pane .ensures) (t .before .before .take-alignment .ensures) (t .texts-checked .ensures) _ (c .before .before .then .given .1) _ (c .read-to .ensures)
 
 returns-2 : tie.Need-returns-2
 returns-2 c =
@@ -39,6 +42,7 @@ read-spec =
     take-alignment-requires
     texts-checked-requires
     enum-known-then
+    read-to-requires
     enum-known-then-2
     refused-requires
     returns

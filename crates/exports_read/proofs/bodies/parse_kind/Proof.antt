@@ -1,4 +1,5 @@
-use Rattle.exports_read.specs.Outcomes.{bodyParsed, listsParsed, bodyFinished}
+use Rattle.strip_kinds.specs.Body.{bodyParsed, listsParsed}
+use Rattle.exports_read.specs.Outcomes.{bodyFinished}
 use mathlib.Core.Path.{refl}
 use Rattle.exports_read.proofs.Reading.{parsed-as}
 use borrow.Author.Needs.{needs}

@@ -1,4 +1,5 @@
-use Rattle.exports_read.specs.Outcomes.{bodyParsed, bodyFinished}
+use Rattle.strip_kinds.specs.Body.{bodyParsed}
+use Rattle.exports_read.specs.Outcomes.{bodyFinished}
 use borrow.Author.Needs.{needs}
 use Rattle.exports_read.proofs.bodies.parse_txt1.Statement.{statement}
 use Rattle.exports_read.proofs.bodies.parse_txt1.Tie as tie

@@ -20,6 +20,9 @@ fill-picture-requires c κs =
     let t = c .before .before .before .before in
     read-measured _ _ _ _ _ _ _ (t .before .before .before .before .take-pane .ensures) (t .before .before .measure-picture .ensures) (t .texts-checked .ensures) _ (c .before .before .then .given .1) _ (t .before .before .before .before .before .before .before .pre .1)
 
+read-to-requires : tie.Need-read-to-requires
+read-to-requires c κs = search needs
+
 enum-known-then-2 : tie.Need-enum-known-then-2
 enum-known-then-2 c = search needs
 
@@ -31,8 +34,8 @@ same-length c = search needs
 
 returns : tie.Need-returns
 returns c =
-    let t = c .before .before .before .before .before .before .before in
-    read-got _ _ _ _ _ _ _ (t .before .before .before .before .take-pane .ensures) (t .before .before .measure-picture .ensures) (t .texts-checked .ensures) _ (c .before .before .before .before .before .then .given .1) _ _ (c .before .before .fill-picture .ensures)
+    let t = c .before .before .before .before .before .before .before .before in
+    read-got _ _ _ _ _ _ _ (t .before .before .before .before .take-pane .ensures) (t .before .before .measure-picture .ensures) (t .texts-checked .ensures) _ (c .before .before .before .before .before .before .then .given .1) _ (c .read-to .ensures) _ _ (c .before .before .before .fill-picture .ensures)
 
 returns-2 : tie.Need-returns-2
 returns-2 c =
@@ -48,6 +51,7 @@ read-spec =
     texts-checked-requires
     enum-known-then
     fill-picture-requires
+    read-to-requires
     enum-known-then-2
     refused-requires
     same-length

@@ -21,6 +21,9 @@ enum-known-then c = search needs
 fill-text-box-requires : tie.Need-fill-text-box-requires
 fill-text-box-requires c κs = (read-stands _ _ _ _ _ _ _ _ (c .before .before .before .before .before .before .before .before .before .before .take-pane .ensures) (c .before .before .before .before .before .before .before .before .measure-text-box .ensures) (c .before .before .before .before .before .before .texts-checked .ensures) (c .before .before .before .before .before .label-checked .ensures) _ (c .before .before .before .then .given .1), c .before .before .before .before .before .before .before .before .before .before .before .before .before .before .pre .2, c .before .before .before .before .before .before .before .before .before .before .before .before .before .before .pre .3)
 
+read-to-requires : tie.Need-read-to-requires
+read-to-requires c κs = search needs
+
 enum-known-then-2 : tie.Need-enum-known-then-2
 enum-known-then-2 c = search needs
 
@@ -34,7 +37,7 @@ same-length-2 : tie.Need-same-length-2
 same-length-2 c = search needs
 
 returns : tie.Need-returns
-returns c = read-got _ _ _ _ _ _ _ _ (c .before .before .before .before .before .before .before .before .before .before .before .before .before .before .before .take-pane .ensures) (c .before .before .before .before .before .before .before .before .before .before .before .before .before .measure-text-box .ensures) (c .before .before .before .before .before .before .before .before .before .before .before .texts-checked .ensures) (c .before .before .before .before .before .before .before .before .before .before .label-checked .ensures) _ (c .before .before .before .before .before .before .before .before .then .given .1) _ _ _ _ (c .before .before .before .before .fill-text-box .ensures .0) (c .before .before .before .before .fill-text-box .ensures .1)
+returns c = read-got _ _ _ _ _ _ _ _ (c .before .before .before .before .before .before .before .before .before .before .before .before .before .before .before .before .take-pane .ensures) (c .before .before .before .before .before .before .before .before .before .before .before .before .before .before .measure-text-box .ensures) (c .before .before .before .before .before .before .before .before .before .before .before .before .texts-checked .ensures) (c .before .before .before .before .before .before .before .before .before .before .before .label-checked .ensures) _ (c .before .before .before .before .before .before .before .before .before .then .given .1) _ (c .read-to .ensures) _ _ _ _ (c .before .before .before .before .before .fill-text-box .ensures .0) (c .before .before .before .before .before .fill-text-box .ensures .1)
 
 returns-2 : tie.Need-returns-2
 returns-2 c = read-refused _ _ _ _ _ _ _ _ (c .before .before .before .before .before .before .before .before .before .take-pane .ensures) (c .before .before .before .before .before .before .before .measure-text-box .ensures) (c .before .before .before .before .before .texts-checked .ensures) (c .before .before .before .before .label-checked .ensures) _ (c .before .before .then2 .given .1) _ (c .refused .ensures) _ _
@@ -49,6 +52,7 @@ read-spec =
     label-checked-requires
     enum-known-then
     fill-text-box-requires
+    read-to-requires
     enum-known-then-2
     refused-requires
     same-length

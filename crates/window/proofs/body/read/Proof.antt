@@ -20,6 +20,9 @@ fill-window-requires c κs =
     let s = c .before .before .before .before .before .before .before .before .before .before .before .before .before in
     (s .pre .0, (quads-ahead _ _ _ _ _ _ _ (c .before .before .before .before .before .before .before .before .before .take-pane .ensures) (c .before .before .before .before .before .before .before .measure-window .ensures) (c .before .before .before .before .before .texts-checked .ensures) _ (c .before .before .before .then .given .1), s .pre .1))
 
+read-to-requires : tie.Need-read-to-requires
+read-to-requires c κs = search needs
+
 enum-known-then-2 : tie.Need-enum-known-then-2
 enum-known-then-2 c = search needs
 
@@ -34,7 +37,7 @@ same-length-2 c = search needs
 
 returns : tie.Need-returns
 returns c =
-    read-got _ _ _ _ _ _ _ (c .before .before .before .before .before .before .before .before .before .before .before .before .before .before .take-pane .ensures) (c .before .before .before .before .before .before .before .before .before .before .before .before .measure-window .ensures) (c .before .before .before .before .before .before .before .before .before .before .texts-checked .ensures) _ _ _ _ _ (c .before .before .before .before .before .before .before .before .then .given .1) (c .before .before .before .before .fill-window .ensures .0) (c .before .before .before .before .fill-window .ensures .1)
+    read-got _ _ _ _ _ _ _ (c .before .before .before .before .before .before .before .before .before .before .before .before .before .before .before .take-pane .ensures) (c .before .before .before .before .before .before .before .before .before .before .before .before .before .measure-window .ensures) (c .before .before .before .before .before .before .before .before .before .before .before .texts-checked .ensures) _ _ _ _ _ (c .before .before .before .before .before .before .before .before .before .then .given .1) _ (c .read-to .ensures) (c .before .before .before .before .before .fill-window .ensures .0) (c .before .before .before .before .before .fill-window .ensures .1)
 
 returns-2 : tie.Need-returns-2
 returns-2 c = read-refused _ _ _ _ _ _ _ (c .before .before .before .before .before .before .before .before .take-pane .ensures) (c .before .before .before .before .before .before .measure-window .ensures) (c .before .before .before .before .texts-checked .ensures) _ _ _ (c .before .before .then2 .given .1) _ (c .refused .ensures)
@@ -48,6 +51,7 @@ read-spec =
     texts-checked-requires
     enum-known-then
     fill-window-requires
+    read-to-requires
     enum-known-then-2
     refused-requires
     same-length

@@ -1,0 +1,183 @@
+-- The read of a body, kind by kind, as a run of steps.
+use mathlib.Core.Path.{_≡_, refl, sym, ap, _∙_}
+use Prim.Native.Nat.{ℕ, _+_, _-_, _≤_}
+use native.Mathlib.Omega.{arith}
+use mathlib.Core.Bool.{not}
+use mathlib.Core.List.{List}
+use lib.ListN.{length}
+use lib.Dec.{lit≤}
+use Rattle.utf8.specs.Utf8.{wellFormed}
+use Rattle.core.specs.Taken.{start, stopIf}
+use Rattle.core.specs.declared.error.Refusal.the-variants.{IllFormedUtf8}
+use Rattle.core.specs.declared.cursor.ByteOrder.{ByteOrder}
+use Rattle.core.specs.declared.cursor.Cursor.{Cursor}
+use Rattle.core.specs.declared.cursor.Place.{Place}
+use Rattle.core.specs.declared.cursor.Place.the-variants.{At, Refused}
+use Rattle.core.proofs.Cursors.{pos-start, pos-advanced, reach-covers}
+use Rattle.core_checks.specs.Checks.{parsedOf, unlessRefused}
+use Rattle.core_checks.specs.declared.checks.Parsed.the-variants as Parseds
+use Rattle.pane_read.specs.Pane.{paneTaken}
+use Rattle.pane_checks.specs.Checks.{textsChecked}
+use Rattle.pane_checks.proofs.Cleared.{texts-cleared}
+use Rattle.pane.specs.Body.{paneRead}
+use Rattle.alignment_fields.specs.Alignment.{alignmentTaken}
+use Rattle.alignment.specs.Body.{alignmentRead}
+use Rattle.picture_fields.specs.Picture.{pictureTaken}
+use Rattle.picture.specs.Body.{pictureRead, quadsRead}
+use Rattle.window_read.specs.Window.{windowTaken}
+use Rattle.window.specs.Body.{ownTaken, readPlace, windowRead, readQuads, readFrames}
+use Rattle.text_box_parts.specs.declared.Label.{Label}
+use Rattle.text_box_parts.specs.declared.Label.the-variants as label
+use Rattle.text_box_caption.specs.Caption.{labelOf}
+use Rattle.text_box_checks.specs.Checks.{labelChecked}
+use Rattle.text_box_read.specs.TextBox.{textBoxTaken, blankTextBox}
+use Rattle.text_box_read.specs.declared.TextBoxPane.{TextBoxPane}
+use Rattle.text_box.specs.Body.{textBoxOwn, textBoxEnd, textBoxRead, unitsAfter, linesAfter}
+use Rattle.text_box.proofs.Calls.{label-cleared}
+use Rattle.strip_records.specs.Kinds.{lengthOf}
+use Rattle.strip_records.specs.Whole.{Lists}
+use Rattle.strip_records.specs.declared.kind.Kind.{Kind}
+use Rattle.strip_records.specs.declared.kind.Kind.the-variants.{Pan1, Pic1, Txt1, Wnd1, Ali1}
+use Rattle.strip_kinds.specs.Body.{bodyRead, bodyLists}
+use Rattle.reach.specs.Agrees.{Agrees}
+use Rattle.reach.specs.Seen.{BodySeen, bodySeen}
+use Rattle.reach.proofs.Steps.{Went, Took, Owned, told, so, after}
+use Rattle.reach.proofs.Pane.{pane-went}
+use Rattle.reach.proofs.Own.{alignment-went, picture-went}
+use Rattle.reach.proofs.Window.{window-went}
+use Rattle.reach.proofs.TextBoxes.{text-box-went}
+
+-- the run of a read of a body at B, of a kind whose fixed bytes are k, which ends at a cursor with these two figures
+pub record Ran (body k end reach lo r n : ℕ) (Same : Type 0) : Type 0 where
+  pub cursor : Cursor
+  pub stop : cursor .pos ≡ end
+  pub far : cursor .reach ≡ reach
+  pub went : Went lo r n (λ (c : Cursor). c ≡ start body → (body + k ≤ cursor .reach) × (cursor .pos ≤ cursor .reach)) (At (start body)) cursor Same
+
+-- an answer that was read: the cursor that it is of
+record From (q : Place) (end reach : ℕ) : Type 0 where
+  cursor : Cursor
+  here : q ≡ At cursor
+  stop : cursor .pos ≡ end
+  far : cursor .reach ≡ reach
+
+from : (q : Place) (end reach : ℕ) → parsedOf q ≡ Parseds.Read end reach → From q end reach
+unfolding parsedOf
+from (At c) end reach e = record { cursor = c; here = refl; stop = cc; far = cc }
+from (Refused why) end reach e = record { cursor = start 0; here = cc; stop = cc; far = cc }
+
+-- the base alone
+base-ran : {body end reach lo r n : ℕ} {X : Type 0} {q : Place} (f : From q end reach) → Took lo r n 76 (At (start body)) (f .cursor) X → Ran body 76 end reach lo r n X
+base-ran {body} f x =
+    let d = f .cursor in
+    let v = reach-covers (x .from) 76 (lit≤ tt) in
+    let e = x .how .reads in
+    record {
+      cursor = d;
+      stop = f .stop;
+      far = f .far;
+      went = told x (λ (c : Cursor). c ≡ start body → (body + 76 ≤ d .reach) × (d .pos ≤ d .reach)) (λ h.
+          let b : x .from .pos ≡ body = ap (λ (c : Cursor). c .pos) h ∙ pos-start body in
+          (rw e (omega (arith, v, b)), rw e (omega (arith, v, pos-advanced (x .from) 76))));
+    }
+
+-- what a kind has, y, after the base, x
+own-ran : {body k end reach lo r n : ℕ} {X Y : Type 0} {q p : Place} (f : From q end reach) (y : Owned lo r n body k p (f .cursor) Y)
+    → Took lo r n 76 (At (start body)) (y .from) X → Ran body k end reach lo r n (X × Y)
+own-ran {body} {k} f y x =
+    let d = f .cursor in
+    record {
+      cursor = d;
+      stop = f .stop;
+      far = f .far;
+      went = after y x (λ (c : Cursor). c ≡ start body → (body + k ≤ d .reach) × (d .pos ≤ d .reach)) (λ h.
+          y .how .owns (ap (λ (c : Cursor). c .pos) (x .how .reads) ∙ pos-advanced (x .from) 76 ∙ ap (λ (n : ℕ). n + 76) (ap (λ (c : Cursor). c .pos) h ∙ pos-start body)));
+    }
+
+-- what it gives
+ran-so : {body k end reach lo r n : ℕ} {X Y : Type 0} → Ran body k end reach lo r n X → (X → Y) → Ran body k end reach lo r n Y
+ran-so x f = record { cursor = x .cursor; stop = x .stop; far = x .far; went = so (x .went) f }
+
+-- 7 of the same label, and the label of a record beside a refusal or not
+label-same : (p : Place) (s s′ : List ℕ) (l : Label) → labelOf s′ l ≡ labelOf s l → labelChecked p s′ l ≡ labelChecked p s l
+unfolding labelChecked
+label-same p s s′ label.Absent e = refl
+label-same p s s′ (label.At place long) e = ap (λ (b : List ℕ). stopIf p (not (wellFormed b)) (IllFormedUtf8 place 3)) e
+
+label-unless : (q : Place) (s s′ : List ℕ) (x : TextBoxPane) → labelOf s′ (x .label) ≡ labelOf s (x .label)
+    → labelOf s′ (unlessRefused q blankTextBox x .label) ≡ labelOf s (unlessRefused q blankTextBox x .label)
+unfolding unlessRefused blankTextBox
+label-unless (At c) s s′ x e = e
+label-unless (Refused why) s s′ x e = refl
+
+abbrev pub Runs : ByteOrder → Kind → ℕ → Lists → Type 0
+Runs order k body l = (s s′ : List ℕ) (end reach : ℕ) → bodySeen order k body l s .read .answer ≡ Parseds.Read end reach → Agrees (body - 8) reach s s′
+    → Ran body (lengthOf k) end reach (body - 8) reach (length s) (bodySeen order k body l s′ ≡ bodySeen order k body l s)
+
+module _ (order : ByteOrder) (body : ℕ) (l : Lists) where
+  pan : Runs order Pan1 body l
+  unfolding bodyRead bodyLists paneRead
+  pan s s′ end reach e a =
+      let t = paneTaken order s (At (start body)) in
+      let f = from (textsChecked (t .then) (t .pane) body) end reach e in
+      let x = pane-went (body - 8) reach s s′ a order (At (start body)) (f .cursor) (texts-cleared (t .then) (t .pane) body (f .cursor) (f .here)) in
+      ran-so (base-ran f x) (λ u. rw u)
+
+  ali : Runs order Ali1 body l
+  unfolding bodyRead bodyLists alignmentRead
+  ali s s′ end reach e a =
+      let b = paneTaken order s (At (start body)) in
+      let t = alignmentTaken order s (b .then) in
+      let f = from (textsChecked (t .then) (b .pane) body) end reach e in
+      let y = alignment-went (body - 8) reach s s′ a order body (b .then) (f .cursor) (texts-cleared (t .then) (b .pane) body (f .cursor) (f .here)) in
+      let x = pane-went (body - 8) reach s s′ a order (At (start body)) (y .from) (y .here) in
+      ran-so (own-ran f y x) (λ u. rw (u .0, u .1))
+
+  pic : Runs order Pic1 body l
+  unfolding bodyRead bodyLists pictureRead quadsRead
+  pic s s′ end reach e a =
+      let b = paneTaken order s (At (start body)) in
+      let t = pictureTaken order s (b .then) in
+      let f = from (textsChecked (t .then) (b .pane) body) end reach e in
+      let y = picture-went (body - 8) reach s s′ a order body (b .then) (f .cursor) (texts-cleared (t .then) (b .pane) body (f .cursor) (f .here)) in
+      let x = pane-went (body - 8) reach s s′ a order (At (start body)) (y .from) (y .here) in
+      ran-so (own-ran f y x) (λ u. rw (u .0, u .1 .0, u .1 .1))
+
+  wnd : Runs order Wnd1 body l
+  unfolding bodyRead bodyLists windowRead readQuads readFrames readPlace ownTaken
+  wnd s s′ end reach e a =
+      let b = paneTaken order s (At (start body)) in
+      let t = windowTaken order s (b .then) body in
+      let f = from (textsChecked (t .then) (b .pane) body) end reach e in
+      let y = window-went (body - 8) reach s s′ a order body (omega arith) (b .then) (f .cursor) (texts-cleared (t .then) (b .pane) body (f .cursor) (f .here)) in
+      let x = pane-went (body - 8) reach s s′ a order (At (start body)) (y .from) (y .here) in
+      ran-so (own-ran f y x) (λ u. rw (u .0, u .1 .0, u .1 .1, u .1 .2))
+
+  txt : Runs order Txt1 body l
+  unfolding bodyRead bodyLists textBoxRead unitsAfter linesAfter textBoxEnd textBoxOwn
+  txt s s′ end reach e a =
+      let b = paneTaken order s (At (start body)) in
+      let t = textBoxTaken order s (b .then) body in
+      let q = textsChecked (t .then) (b .pane) body in
+      let name : Label = t .«text_box» .label in
+      let f = from (labelChecked q s name) end reach e in
+      let g = texts-cleared (t .then) (b .pane) body (f .cursor) (label-cleared q s name (f .cursor) (f .here)) in
+      let y = text-box-went (body - 8) reach s s′ a order body (omega arith) (b .then) (f .cursor) g in
+      let x = pane-went (body - 8) reach s s′ a order (At (start body)) (y .from) (y .here) in
+      ran-so (own-ran f y x) (λ u.
+      rw (
+        u .0,
+        u .1 .0,
+        label-same q s s′ name (u .1 .1),
+        u .1 .2,
+        u .1 .3,
+        label-unless (labelChecked q s name) s s′ (t .«text_box») (u .1 .1),
+      ))
+
+  -- every kind
+  pub body-ran : (k : Kind) → Runs order k body l
+  body-ran Pan1 = pan
+  body-ran Pic1 = pic
+  body-ran Txt1 = txt
+  body-ran Wnd1 = wnd
+  body-ran Ali1 = ali

@@ -1,0 +1,71 @@
+-- A label up to its NUL.
+use mathlib.Core.Path.{_≡_, refl, sym, ap, _∙_}
+use Prim.Native.Nat.{ℕ, zero, suc, _+_, _≤_, _<_}
+use native.Mathlib.Omega.{arith}
+use native.Mathlib.Numerals.{add-one}
+use mathlib.Core.Bool.{Bool, true, false, cond}
+use mathlib.Core.List.{List, [], _∷_}
+use lib.ListN.{length, take, drop, getD, length-drop}
+use lib.Dec.{eqb, ltb}
+use borrow.Author.Tests.{ltb-true, ltb-false, lt-ltb, le-ltb}
+use Rattle.core.specs.Bytes.{part}
+use Rattle.core.specs.Taken.{Taken, advanced, upToNul, labelTaken}
+use Rattle.core.specs.declared.cursor.Cursor.{Cursor}
+use Rattle.core.specs.declared.cursor.Place.{Place}
+use Rattle.core.specs.declared.cursor.Place.the-variants.{At, Refused}
+use Rattle.core.specs.declared.error.Refusal.{Refusal}
+use Rattle.core.specs.declared.error.Refusal.the-variants.{NoNul}
+use Rattle.core.proofs.Cursors.{pos-advanced, reach-grows, reach-covers, reach-within}
+use Rattle.reach.specs.Agrees.{Agrees}
+use Rattle.reach.proofs.Steps.{Some, part-same}
+
+-- lists that are the same up to the first NUL of one have the same bytes before it
+upto-step : (t : Bool) (b : ℕ) (x y : List ℕ) → (ih : take (suc (length (upToNul x))) x ≡ take (suc (length (upToNul x))) y → length (upToNul x) < length x → upToNul y ≡ upToNul x)
+    → take (length (cond t [] (b ∷ upToNul x))) x ≡ take (length (cond t [] (b ∷ upToNul x))) y → length (cond t [] (b ∷ upToNul x)) < suc (length x)
+    → cond t [] (b ∷ upToNul y) ≡ cond t [] (b ∷ upToNul x)
+upto-step true b x y ih e h = refl
+upto-step false b x y ih e h = ap (λ (l : List ℕ). b ∷ l) (ih e (omega arith))
+
+upto-same : (x y : List ℕ) → take (suc (length (upToNul x))) x ≡ take (suc (length (upToNul x))) y → length (upToNul x) < length x → upToNul y ≡ upToNul x
+unfolding upToNul
+upto-same [] y e h = absurd (omega arith)
+upto-same (b ∷ x) [] e h = cc
+upto-same (b ∷ x) (c ∷ y) e h =
+    let f : b ≡ c = cc in
+    let g : take (length (cond (eqb b 0) [] (b ∷ upToNul x))) x ≡ take (length (cond (eqb b 0) [] (b ∷ upToNul x))) y = cc in
+    rw (← f) (upto-step (eqb b 0) b x y (upto-same x y) g h)
+
+module _ (lo r : ℕ) (s s′ : List ℕ) (a : Agrees lo r s s′) where
+  label-by : (c d : Cursor) (b : Bool) → ltb (c .pos + length (upToNul (drop (c .pos) s))) (length s) ≡ b → labelTaken s (At c) .then ≡ At d
+      → Some lo r (length s) (At c) d (labelTaken s′ (At c) ≡ labelTaken s (At c))
+  unfolding labelTaken part
+  label-by c d true e h =
+      let k : ℕ = length (upToNul (drop (c .pos) s)) in
+      let fit : c .pos + k < length s = ltb-true (c .pos + k) (length s) e in
+      let i : _≡_ {A = Place} (At (advanced c (k + 1))) (At d) = rw e at h in
+      let j : advanced c (k + 1) ≡ d = cc in
+      let far : c .pos + (k + 1) ≤ d .reach = rw j at (reach-covers c (k + 1) (omega arith)) in
+      record {
+        from = c;
+        here = refl;
+        how = tt;
+        grows = rw (← j) (reach-grows c (k + 1));
+        within = λ l. rw (← j) (reach-within c (k + 1) (length s) l (omega arith));
+        low = λ l. rw (← j, pos-advanced c (k + 1)) (omega arith);
+        same = λ l m.
+            let q : take (suc k) (drop (c .pos) s) ≡ take (suc k) (drop (c .pos) s′) = sym (part-same lo r s s′ a (suc k) (c .pos) l (omega (arith, far)) (omega arith)) in
+            let v : upToNul (drop (c .pos) s′) ≡ upToNul (drop (c .pos) s) = upto-same (drop (c .pos) s) (drop (c .pos) s′) q (omega (arith, length-drop (c .pos) s)) in
+            let z : ltb (c .pos + k) (length s′) ≡ true = lt-ltb (c .pos + k) (length s′) (omega (arith, a .long)) in
+            rw (v, e, z);
+      }
+  label-by c d false e h =
+      let i : _≡_ {A = Place} (Refused (NoNul (c .pos))) (At d) = rw e at h in
+      let z : _≡_ {A = ℕ} 0 1 = cc in absurd (omega arith)
+
+  label-refused : (why : Refusal) → labelTaken s (Refused why) .then ≡ Refused why
+  unfolding labelTaken
+  label-refused why = refl
+
+  pub label-went : (p : Place) (d : Cursor) → labelTaken s p .then ≡ At d → Some lo r (length s) p d (labelTaken s′ p ≡ labelTaken s p)
+  label-went (At c) d h = label-by c d _ refl h
+  label-went (Refused why) d h = let z : _≡_ {A = ℕ} 0 1 = cc (label-refused why) in absurd (omega arith)

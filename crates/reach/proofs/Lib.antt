@@ -1,0 +1,13 @@
+pub mod Steps
+pub mod Fields
+pub mod Labels
+pub mod Pane
+pub mod Own
+pub mod Window
+pub mod TextBox
+pub mod TextBoxes
+pub mod ByKind
+pub mod Needed
+pub mod Sections
+pub mod Calls
+pub mod Examples

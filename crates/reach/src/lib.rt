@@ -1,0 +1,1 @@
+// What the reach of a read means. No code: the laws are in proofs.

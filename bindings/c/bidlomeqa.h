@@ -271,13 +271,14 @@ extern "C" {
  */
 
 /*
- * The reach, the third word of the answer PANE, is the first place past all bytes that the read looked at. It is never before the place after the body,
- * and never beyond `data`. It is for a caller that keeps only part of a page in memory:
- * - The bytes from the section's place (of a body call: from `place` - 8) up to the reach are all that the read looked at. Other data that is no shorter
- *   and has the same bytes there gives the same answer, record, lists and label, unless it is too long for a call.
- * - Data that is cut below the reach is refused. Cut right at the section's place, it is a strip that ends there.
- * - Data that is cut at the reach need not be read. The section's size must not pass the end of `data`. Nor must a place that is sought with nothing to
- *   read there: that of a text with no units, or of a table with no frames. So keep the page's length. The bytes from the reach on may be any.
+ * The reach, the third word of the answer PANE, is the first place past all bytes that the read of the body looked at. It is never before the place
+ * after the body, and never past `data_length`. It is for a caller that keeps only part of a page in memory:
+ * - All bytes that the read looked at lie from the section's place (of a body call: from `place` - 8) up to the reach. Other data that is no shorter and
+ *   has the same bytes there gives the same answer, record, lists and label, unless it is too long for a call (refusal 1).
+ * - Data that is cut below the reach is refused. The one exception is a section read of data that is cut right at `place`, which answers END.
+ * - Data that is cut right at the reach may still be refused: the section's size must not pass the end of `data`, and nor must a place that is sought with
+ *   nothing to read there, that of a text with no units or of a table with no frames. So hand in as many bytes as the page has. Those that do not lie in
+ *   that part may have any value, but must be memory that can be read.
  */
 
 /* Reads the section at `place`: END, PASSED, PANE, REFUSED, SHORT_RECORD, BAD_ORDER or SHORT_ANSWER. */

@@ -3,6 +3,7 @@
 //! Bytes are handed in as nnbfl has them, little-endian. A big-endian run gives the library their mirror, and must get the same answers and records and,
 //! where it writes, the mirror of what nnbfl writes.
 use crate::fault::{Fault, Left};
+use crate::lent::{different, Lent, GUARD, WORD};
 use crate::mirror;
 use crate::oracle::{self, Outcome, LIMIT};
 use crate::reach;
@@ -13,75 +14,10 @@ use bidlomeqa::layout::*;
 use bidlomeqa::{Buffer, ByteOrder, Kind};
 use std::borrow::Cow;
 
-const WORD: u64 = 0x5A5A_5A5A_5A5A_5A5A;
-const QUAD: u32 = 0xA5A5_A5A5;
-const UNIT: u16 = 0xA5A5;
 const BYTE: u8 = 0xA5;
-
-/// Numbers beyond the lists and bytes beyond the output that are watched too.
-const GUARD: usize = 8;
 
 /// Of so many panes that were read nnbfl judges the reach of one. A prime, so that no generator keeps in step with it.
 const JUDGED: u64 = 61;
-
-/// What is lent to a read.
-#[derive(PartialEq)]
-struct Lent {
-    words: Vec<u64>,
-    quads: Vec<u32>,
-    units: Vec<u16>,
-    lines: Vec<u32>,
-    frames: Vec<u16>,
-}
-
-impl Lent {
-    fn new() -> Self {
-        Self {
-            words: vec![WORD; RECORD_WORDS],
-            quads: vec![QUAD; FULL[0] + GUARD],
-            units: vec![UNIT; FULL[1] + GUARD],
-            lines: vec![QUAD; FULL[2] + GUARD],
-            frames: vec![UNIT; FULL[3] + GUARD],
-        }
-    }
-
-    // The pane as a read must leave it: the words of its kind, the first numbers of its lists.
-    fn holds(&mut self, w: &Whole) {
-        let end = WORDS_END[w.kind() as usize];
-        self.words[..end].copy_from_slice(&w.words[..end]);
-        self.quads[..w.quads.len()].copy_from_slice(&w.quads);
-        self.units[..w.units.len()].copy_from_slice(&w.units);
-        self.lines[..w.lines.len()].copy_from_slice(&w.lines);
-        self.frames[..w.frames.len()].copy_from_slice(&w.frames);
-    }
-
-    // Undoes `holds`.
-    fn blank(&mut self, w: &Whole) {
-        self.words.fill(WORD);
-        self.quads[..w.quads.len()].fill(QUAD);
-        self.units[..w.units.len()].fill(UNIT);
-        self.lines[..w.lines.len()].fill(QUAD);
-        self.frames[..w.frames.len()].fill(UNIT);
-    }
-
-    fn differences(&self, found: &Self) -> Vec<String> {
-        let mut what = Vec::new();
-        different("word", &self.words, &found.words, &mut what);
-        different("quads", &self.quads, &found.quads, &mut what);
-        different("units", &self.units, &found.units, &mut what);
-        different("lines", &self.lines, &found.lines, &mut what);
-        different("frames", &self.frames, &found.frames, &mut what);
-        what
-    }
-}
-
-fn different<T: PartialEq + std::fmt::Debug>(name: &str, expected: &[T], found: &[T], what: &mut Vec<String>) {
-    for (i, (e, f)) in expected.iter().zip(found).enumerate() {
-        if e != f && what.len() < 8 {
-            what.push(format!("{name} {i}: expected {e:?}, found {f:?}"));
-        }
-    }
-}
 
 fn hex(bytes: &[u8]) -> String {
     let digits: String = bytes.iter().take(400).map(|b| format!("{b:02X}")).collect();

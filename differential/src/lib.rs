@@ -2,6 +2,7 @@
 pub mod compare;
 pub mod fault;
 pub mod generate;
+pub mod lent;
 pub mod mirror;
 pub mod oracle;
 pub mod outside;

@@ -22,14 +22,15 @@ impl<'a> View<'a> {
         self.words
     }
 
-    /// How far the read looked: the first place of the buffer past all bytes that it read. It is never before the place after the body, and never beyond
-    /// the buffer's end. It is for a caller that keeps only part of a page in memory:
+    /// How far the read looked: the first place of the buffer past all bytes that it read. It is never before the place after the body, and never past the
+    /// buffer's end. It is for a caller that keeps only part of a page in memory:
     ///
-    /// - The bytes from the section's place (of a body call: from 8 before its place) up to the reach are all that the read looked at. Another buffer that is
-    ///   no shorter and has the same bytes there gives the same answer, record, lists and label, unless it is too long for a call.
-    /// - A buffer that is cut below the reach is refused. Cut right at the section's place, it is a strip that ends there.
-    /// - A buffer that is cut at the reach need not be read. The section's size must not pass the buffer's end. Nor must a place that is sought with nothing to
-    ///   read there: that of a text with no units, or of a table with no frames. So keep the page's length. The bytes from the reach on may be any.
+    /// - All bytes that the read looked at lie from the section's place (of a body call: from 8 before its place) up to the reach. Another buffer that is no
+    ///   shorter and has the same bytes there gives the same answer, record, lists and label, unless it is too long for a call (refusal 1).
+    /// - A buffer that is cut below the reach is refused. The one exception is a section read of a buffer that is cut right at the place, which is at its end.
+    /// - A buffer that is cut right at the reach may still be refused: the section's size must not pass its end, and nor must a place that is sought with
+    ///   nothing to read there, that of a text with no units or of a table with no frames. So hand in as many bytes as the page has. Those that do not lie in
+    ///   that part may have any value.
     pub fn reach(&self) -> usize {
         self.reach
     }

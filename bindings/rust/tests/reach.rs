@@ -224,7 +224,7 @@ fn a_part_beyond_the_section_counts() {
 }
 
 #[test]
-fn a_buffer_cut_at_the_reach_need_not_be_read() {
+fn a_buffer_cut_at_the_reach_may_be_refused() {
     let text = section(Little, Kind::Txt1, &[0; 8], &[(TEXT, 4, 176)]);
     assert_eq!(read_body(Little, Kind::Txt1, &text, 8).unwrap().reach, 168);
     assert_eq!(read_body(Little, Kind::Txt1, &text[..168], 8).unwrap_err().figures(), (4, 168, 8));

@@ -97,6 +97,10 @@ section-started n place c e =
 
 -- ---- let through
 
+pub body-passes : (n b : ℕ) → BodyOk n b → bodyStart n b ≡ At (start b)
+unfolding bodyStart bodyChecked lengthChecked stopIf
+body-passes n b h = rw (le-ltb 16777216 n (h .most), le-ltb b 8 (h .least), le-ltb n b (h .within))
+
 pub section-passes : (n place : ℕ) → SectionOk n place → sectionStart n place ≡ At (start place)
 unfolding sectionStart sectionChecked lengthChecked stopIf
 section-passes n place h = rw (le-ltb 16777216 n (h .most), le-ltb n place (h .within), h .whole)

@@ -31,11 +31,7 @@ fn print_answer(answer: Section) {
             print(b"pass");
             print_figure(next);
         }
-        Section::Pane {
-            end,
-            next,
-            reach: _,
-        } => {
+        Section::Pane { end, next, .. } => {
             print(b"pane");
             print_figure(end);
             print_figure(next);

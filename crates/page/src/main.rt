@@ -179,11 +179,7 @@ fn print_section(data: &[u8], place: usize, read: Step) {
     match answer {
         Section::End => print_end(place),
         Section::Passed { next } => print_passed(data, place, next),
-        Section::Pane {
-            end: _,
-            next,
-            reach: _,
-        } => print_pane(read.record, place, next),
+        Section::Pane { next, .. } => print_pane(read.record, place, next),
         Section::Refused(why) => print_refusal(why, place),
     }
 }

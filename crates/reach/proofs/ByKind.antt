@@ -2,7 +2,7 @@
 use mathlib.Core.Path.{_≡_, refl, sym, ap, _∙_}
 use Prim.Native.Nat.{ℕ, _+_, _-_, _≤_}
 use native.Mathlib.Omega.{arith}
-use mathlib.Core.Bool.{not}
+use mathlib.Core.Bool.{Bool, false, not}
 use mathlib.Core.List.{List}
 use lib.ListN.{length}
 use lib.Dec.{lit≤}
@@ -13,7 +13,7 @@ use Rattle.core.specs.declared.cursor.ByteOrder.{ByteOrder}
 use Rattle.core.specs.declared.cursor.Cursor.{Cursor}
 use Rattle.core.specs.declared.cursor.Place.{Place}
 use Rattle.core.specs.declared.cursor.Place.the-variants.{At, Refused}
-use Rattle.core.proofs.Cursors.{pos-start, pos-advanced, reach-covers}
+use Rattle.core.proofs.Cursors.{pos-start, pos-advanced, reach-start, reach-covers, reach-level}
 use Rattle.core_checks.specs.Checks.{parsedOf, unlessRefused}
 use Rattle.core_checks.specs.declared.checks.Parsed.the-variants as Parseds
 use Rattle.pane_read.specs.Pane.{paneTaken}
@@ -40,62 +40,79 @@ use Rattle.strip_records.specs.declared.kind.Kind.{Kind}
 use Rattle.strip_records.specs.declared.kind.Kind.the-variants.{Pan1, Pic1, Txt1, Wnd1, Ali1}
 use Rattle.strip_kinds.specs.Body.{bodyRead, bodyLists}
 use Rattle.reach.specs.Agrees.{Agrees}
-use Rattle.reach.specs.Seen.{BodySeen, bodySeen}
-use Rattle.reach.proofs.Steps.{Went, Took, Owned, told, so, after}
+use Rattle.reach.specs.Seen.{bodySeen}
+use Rattle.reach.specs.Figures.{seeks}
+use Rattle.reach.proofs.Steps.{Went, Reads, Took, Owns, Owned, told, so, after}
 use Rattle.reach.proofs.Pane.{pane-went}
 use Rattle.reach.proofs.Own.{alignment-went, picture-went}
 use Rattle.reach.proofs.Window.{window-went}
 use Rattle.reach.proofs.TextBoxes.{text-box-went}
 
--- the run of a read of a body at B, of a kind whose fixed bytes are k, which ends at a cursor with these two figures
-pub record Ran (body k end reach lo r n : ℕ) (Same : Type 0) : Type 0 where
+-- a body at B whose fixed bytes are k, of n bytes, read to d: its fixed bytes lie below the reach, the end is not past it, the base is there, and of a kind
+-- with no offsets the reach is the end
+pub record Ended (body k n : ℕ) (sought : Bool) (d : Cursor) : Type 0 where
+  pub fixed : body + k ≤ d .reach
+  pub ended : d .pos ≤ d .reach
+  pub base : body + 76 ≤ n
+  pub level : sought ≡ false → d .reach ≡ d .pos
+
+-- the run of such a read, which ends at a cursor with these two figures
+pub record Ran (body k : ℕ) (sought : Bool) (end reach lo r n : ℕ) (Same : Type 0) : Type 0 where
   pub cursor : Cursor
   pub stop : cursor .pos ≡ end
   pub far : cursor .reach ≡ reach
-  pub went : Went lo r n (λ (c : Cursor). c ≡ start body → (body + k ≤ cursor .reach) × (cursor .pos ≤ cursor .reach)) (At (start body)) cursor Same
+  pub went : Went lo r n (λ (c : Cursor). c ≡ start body → Ended body k n sought cursor) (At (start body)) cursor Same
 
 -- an answer that was read: the cursor that it is of
-record From (q : Place) (end reach : ℕ) : Type 0 where
+record Answered (q : Place) (end reach : ℕ) : Type 0 where
   cursor : Cursor
   here : q ≡ At cursor
   stop : cursor .pos ≡ end
   far : cursor .reach ≡ reach
 
-from : (q : Place) (end reach : ℕ) → parsedOf q ≡ Parseds.Read end reach → From q end reach
+answered : (q : Place) (end reach : ℕ) → parsedOf q ≡ Parseds.Read end reach → Answered q end reach
 unfolding parsedOf
-from (At c) end reach e = record { cursor = c; here = refl; stop = cc; far = cc }
-from (Refused why) end reach e = record { cursor = start 0; here = cc; stop = cc; far = cc }
+answered (At c) end reach e = record { cursor = c; here = refl; stop = cc; far = cc }
+answered (Refused why) end reach e = record { cursor = start 0; here = cc; stop = cc; far = cc }
 
--- the base alone
-base-ran : {body end reach lo r n : ℕ} {X : Type 0} {q : Place} (f : From q end reach) → Took lo r n 76 (At (start body)) (f .cursor) X → Ran body 76 end reach lo r n X
-base-ran {body} f x =
-    let d = f .cursor in
-    let v = reach-covers (x .from) 76 (lit≤ tt) in
-    let e = x .how .reads in
-    record {
-      cursor = d;
-      stop = f .stop;
-      far = f .far;
-      went = told x (λ (c : Cursor). c ≡ start body → (body + 76 ≤ d .reach) × (d .pos ≤ d .reach)) (λ h.
-          let b : x .from .pos ≡ body = ap (λ (c : Cursor). c .pos) h ∙ pos-start body in
-          (rw e (omega (arith, v, b)), rw e (omega (arith, v, pos-advanced (x .from) 76))));
-    }
+-- what a kind has, from e to d, after the base from B
+own-ended : (body k n : ℕ) (sought : Bool) (c e d : Cursor) → Reads n 76 e c → Owns body k sought d e → c ≡ start body → Ended body k n sought d
+own-ended body k n sought c e d x y h =
+    let at : c .pos ≡ body = ap (λ (z : Cursor). z .pos) h ∙ pos-start body in
+    let looked : c .reach ≡ c .pos = ap (λ (z : Cursor). z .reach) h ∙ reach-start body ∙ sym at in
+    let there : e .pos ≡ body + 76 = ap (λ (z : Cursor). z .pos) (x .reads) ∙ pos-advanced c 76 ∙ ap (λ (m : ℕ). m + 76) at in
+    let level : e .reach ≡ e .pos = ap (λ (z : Cursor). z .reach) (x .reads) ∙ reach-level c looked 76 ∙ ap (λ (m : ℕ). m + 76) at ∙ sym there in
+    let v = y .owns there in
+    record { fixed = v .0; ended = v .1; base = omega (arith, x .room (lit≤ tt), at); level = λ b. y .level b level }
 
--- what a kind has, y, after the base, x
-own-ran : {body k end reach lo r n : ℕ} {X Y : Type 0} {q p : Place} (f : From q end reach) (y : Owned lo r n body k p (f .cursor) Y)
-    → Took lo r n 76 (At (start body)) (y .from) X → Ran body k end reach lo r n (X × Y)
-own-ran {body} {k} f y x =
-    let d = f .cursor in
-    record {
-      cursor = d;
-      stop = f .stop;
-      far = f .far;
-      went = after y x (λ (c : Cursor). c ≡ start body → (body + k ≤ d .reach) × (d .pos ≤ d .reach)) (λ h.
-          y .how .owns (ap (λ (c : Cursor). c .pos) (x .how .reads) ∙ pos-advanced (x .from) 76 ∙ ap (λ (n : ℕ). n + 76) (ap (λ (c : Cursor). c .pos) h ∙ pos-start body)));
-    }
+-- nothing beyond the base
+none-owns : (body n : ℕ) (c e : Cursor) → Reads n 76 e c → c ≡ start body → Owns body 76 false e e
+none-owns body n c e x h =
+    let v = reach-covers c 76 (lit≤ tt) in
+    let p = pos-advanced c 76 in
+    rw (x .reads) (record { owns = λ f. (omega (arith, v, p, f), omega (arith, v, p)); level = λ b f. f })
+
+base-ran : {body end reach lo r n : ℕ} {X : Type 0} {q : Place} (f : Answered q end reach) → Took lo r n 76 (At (start body)) (f .cursor) X → Ran body 76 false end reach lo r n X
+base-ran {body} {n = n} f x = record {
+  cursor = f .cursor;
+  stop = f .stop;
+  far = f .far;
+  went = told x (λ (c : Cursor). c ≡ start body → Ended body 76 n false (f .cursor)) (λ h.
+      own-ended body 76 n false (x .from) (f .cursor) (f .cursor) (x .how) (none-owns body n (x .from) (f .cursor) (x .how) h) h);
+}
+
+own-ran : {body k end reach lo r n : ℕ} {sought : Bool} {X Y : Type 0} {q p : Place} (f : Answered q end reach) (y : Owned lo r n body k sought p (f .cursor) Y)
+    → Took lo r n 76 (At (start body)) (y .from) X → Ran body k sought end reach lo r n (X × Y)
+own-ran {body} {k} {n = n} {sought = sought} f y x = record {
+  cursor = f .cursor;
+  stop = f .stop;
+  far = f .far;
+  went = after y x (λ (c : Cursor). c ≡ start body → Ended body k n sought (f .cursor))
+      (λ h. own-ended body k n sought (x .from) (y .from) (f .cursor) (x .how) (y .how) h);
+}
 
 -- what it gives
-ran-so : {body k end reach lo r n : ℕ} {X Y : Type 0} → Ran body k end reach lo r n X → (X → Y) → Ran body k end reach lo r n Y
+ran-so : {body k end reach lo r n : ℕ} {sought : Bool} {X Y : Type 0} → Ran body k sought end reach lo r n X → (X → Y) → Ran body k sought end reach lo r n Y
 ran-so x f = record { cursor = x .cursor; stop = x .stop; far = x .far; went = so (x .went) f }
 
 -- 7 of the same label, and the label of a record beside a refusal or not
@@ -112,14 +129,14 @@ label-unless (Refused why) s s′ x e = refl
 
 abbrev pub Runs : ByteOrder → Kind → ℕ → Lists → Type 0
 Runs order k body l = (s s′ : List ℕ) (end reach : ℕ) → bodySeen order k body l s .read .answer ≡ Parseds.Read end reach → Agrees (body - 8) reach s s′
-    → Ran body (lengthOf k) end reach (body - 8) reach (length s) (bodySeen order k body l s′ ≡ bodySeen order k body l s)
+    → Ran body (lengthOf k) (seeks k) end reach (body - 8) reach (length s) (bodySeen order k body l s′ ≡ bodySeen order k body l s)
 
 module _ (order : ByteOrder) (body : ℕ) (l : Lists) where
   pan : Runs order Pan1 body l
   unfolding bodyRead bodyLists paneRead
   pan s s′ end reach e a =
       let t = paneTaken order s (At (start body)) in
-      let f = from (textsChecked (t .then) (t .pane) body) end reach e in
+      let f = answered (textsChecked (t .then) (t .pane) body) end reach e in
       let x = pane-went (body - 8) reach s s′ a order (At (start body)) (f .cursor) (texts-cleared (t .then) (t .pane) body (f .cursor) (f .here)) in
       ran-so (base-ran f x) (λ u. rw u)
 
@@ -128,7 +145,7 @@ module _ (order : ByteOrder) (body : ℕ) (l : Lists) where
   ali s s′ end reach e a =
       let b = paneTaken order s (At (start body)) in
       let t = alignmentTaken order s (b .then) in
-      let f = from (textsChecked (t .then) (b .pane) body) end reach e in
+      let f = answered (textsChecked (t .then) (b .pane) body) end reach e in
       let y = alignment-went (body - 8) reach s s′ a order body (b .then) (f .cursor) (texts-cleared (t .then) (b .pane) body (f .cursor) (f .here)) in
       let x = pane-went (body - 8) reach s s′ a order (At (start body)) (y .from) (y .here) in
       ran-so (own-ran f y x) (λ u. rw (u .0, u .1))
@@ -138,7 +155,7 @@ module _ (order : ByteOrder) (body : ℕ) (l : Lists) where
   pic s s′ end reach e a =
       let b = paneTaken order s (At (start body)) in
       let t = pictureTaken order s (b .then) in
-      let f = from (textsChecked (t .then) (b .pane) body) end reach e in
+      let f = answered (textsChecked (t .then) (b .pane) body) end reach e in
       let y = picture-went (body - 8) reach s s′ a order body (b .then) (f .cursor) (texts-cleared (t .then) (b .pane) body (f .cursor) (f .here)) in
       let x = pane-went (body - 8) reach s s′ a order (At (start body)) (y .from) (y .here) in
       ran-so (own-ran f y x) (λ u. rw (u .0, u .1 .0, u .1 .1))
@@ -148,7 +165,7 @@ module _ (order : ByteOrder) (body : ℕ) (l : Lists) where
   wnd s s′ end reach e a =
       let b = paneTaken order s (At (start body)) in
       let t = windowTaken order s (b .then) body in
-      let f = from (textsChecked (t .then) (b .pane) body) end reach e in
+      let f = answered (textsChecked (t .then) (b .pane) body) end reach e in
       let y = window-went (body - 8) reach s s′ a order body (omega arith) (b .then) (f .cursor) (texts-cleared (t .then) (b .pane) body (f .cursor) (f .here)) in
       let x = pane-went (body - 8) reach s s′ a order (At (start body)) (y .from) (y .here) in
       ran-so (own-ran f y x) (λ u. rw (u .0, u .1 .0, u .1 .1, u .1 .2))
@@ -160,7 +177,7 @@ module _ (order : ByteOrder) (body : ℕ) (l : Lists) where
       let t = textBoxTaken order s (b .then) body in
       let q = textsChecked (t .then) (b .pane) body in
       let name : Label = t .«text_box» .label in
-      let f = from (labelChecked q s name) end reach e in
+      let f = answered (labelChecked q s name) end reach e in
       let g = texts-cleared (t .then) (b .pane) body (f .cursor) (label-cleared q s name (f .cursor) (f .here)) in
       let y = text-box-went (body - 8) reach s s′ a order body (omega arith) (b .then) (f .cursor) g in
       let x = pane-went (body - 8) reach s s′ a order (At (start body)) (y .from) (y .here) in

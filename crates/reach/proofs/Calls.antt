@@ -3,18 +3,17 @@ use mathlib.Core.Path.{_≡_, refl, sym, ap, _∙_}
 use Prim.Native.Nat.{ℕ, _-_, _≤_, _<_}
 use native.Mathlib.Omega.{arith}
 use mathlib.Core.List.{List, _++_}
-use lib.ListN.{length, take, length-take, length-append}
-use borrow.Author.Tests.{le-ltb}
-use Rattle.core.specs.Taken.{start, stopIf}
+use lib.ListN.{length, take, length-take}
+use Rattle.core.specs.Taken.{start}
 use Rattle.core.specs.declared.error.Refusal.{Refusal}
 use Rattle.core.specs.declared.cursor.ByteOrder.{ByteOrder}
 use Rattle.core.specs.declared.cursor.Cursor.{Cursor}
 use Rattle.core.specs.declared.cursor.Place.{Place}
 use Rattle.core.specs.declared.cursor.Place.the-variants.{At, Refused}
-use Rattle.core_checks.specs.Checks.{lengthChecked, bodyChecked, bodyStart, parsedOf}
+use Rattle.core_checks.specs.Checks.{bodyStart, parsedOf}
 use Rattle.core_checks.specs.declared.checks.Parsed.{Parsed}
 use Rattle.core_checks.specs.declared.checks.Parsed.the-variants as Parseds
-use Rattle.core_checks.proofs.Checked.{BodyOk, body-started, list-cleared, list-passes}
+use Rattle.core_checks.proofs.Checked.{BodyOk, body-started, body-passes, list-cleared, list-passes}
 use Rattle.pane_read.specs.Pane.{paneTaken}
 use Rattle.pane_read.proofs.Run.{pane-stays}
 use Rattle.pane.proofs.Calls.{texts-stay}
@@ -33,7 +32,8 @@ use Rattle.strip_records.specs.declared.kind.Kind.the-variants.{Pan1, Pic1, Txt
 use Rattle.strip_kinds.specs.Body.{bodyRead, bodyLists, bodyParsed, listsParsed}
 use Rattle.reach.specs.Agrees.{Agrees}
 use Rattle.reach.specs.Seen.{BodySeen, bodySeen, callSeen}
-use Rattle.reach.proofs.Needed.{IsRefused, Bounds, agrees-longer, needed, bounds, cut}
+use Rattle.reach.specs.Figures.{Bounds, BodyRefused}
+use Rattle.reach.proofs.Needed.{agrees-longer, agrees-take, needed, bounds}
 
 -- ---- where the call of a kind begins: 1, 2, and 3 of the lists that the kind takes
 
@@ -61,22 +61,18 @@ lists-is order Wnd1 s body l = refl
 lists-is order Ali1 s body l = refl
 
 -- a refused run answers so
-stays : (order : ByteOrder) (k : Kind) (s : List ℕ) (why : Refusal) (body : ℕ) → bodyRead order k s (Refused why) body .answer ≡ Parseds.Refused why
+body-stays : (order : ByteOrder) (k : Kind) (s : List ℕ) (why : Refusal) (body : ℕ) → bodyRead order k s (Refused why) body .answer ≡ Parseds.Refused why
 unfolding bodyRead paneRead pictureRead textBoxRead windowRead readPlace ownTaken alignmentRead parsedOf
-stays order Pan1 s why body = rw (pane-stays order s why, texts-stay why (paneTaken order s (Refused why) .pane) body)
-stays order Pic1 s why body = rw (pane-stays order s why, picture-stays order s why, texts-stay why (paneTaken order s (Refused why) .pane) body)
-stays order Txt1 s why body = rw (end-refused order s why body)
-stays order Wnd1 s why body = rw (pane-stays order s why, window-stays order s why body, texts-stay why (paneTaken order s (Refused why) .pane) body)
-stays order Ali1 s why body = rw (pane-stays order s why, alignment-stays order s why, texts-stay why (paneTaken order s (Refused why) .pane) body)
+body-stays order Pan1 s why body = rw (pane-stays order s why, texts-stay why (paneTaken order s (Refused why) .pane) body)
+body-stays order Pic1 s why body = rw (pane-stays order s why, picture-stays order s why, texts-stay why (paneTaken order s (Refused why) .pane) body)
+body-stays order Txt1 s why body = rw (end-refused order s why body)
+body-stays order Wnd1 s why body = rw (pane-stays order s why, window-stays order s why body, texts-stay why (paneTaken order s (Refused why) .pane) body)
+body-stays order Ali1 s why body = rw (pane-stays order s why, alignment-stays order s why, texts-stay why (paneTaken order s (Refused why) .pane) body)
 
 -- what the checks 1 to 3 tell, and that they let any other buffer of an allowed length through that holds B
 record Started (k : Kind) (n body : ℕ) (l : Lists) : Type 0 where
   ok : BodyOk n body
   again : (m : ℕ) → BodyOk m body → startOf k m body l ≡ At (start body)
-
-body-passes : (n body : ℕ) → BodyOk n body → bodyStart n body ≡ At (start body)
-unfolding bodyStart bodyChecked lengthChecked stopIf
-body-passes n body h = rw (le-ltb 16777216 n (h .most), le-ltb body 8 (h .least), le-ltb n body (h .within))
 
 started : (k : Kind) (n body : ℕ) (l : Lists) (c : Cursor) → startOf k n body l ≡ At c → Started k n body l
 unfolding startOf pictureStart textBoxStart readStart
@@ -100,7 +96,7 @@ module _ (order : ByteOrder) (k : Kind) (body : ℕ) (l : Lists) where
 
   started-by : (s : List ℕ) (end reach : ℕ) (q : Place) → startOf k (length s) body l ≡ q → bodyRead order k s q body .answer ≡ Parseds.Read end reach → Started k (length s) body l
   started-by s end reach (At c) g e = started k (length s) body l c g
-  started-by s end reach (Refused why) g e = let z : _≡_ {A = ℕ} 0 1 = cc (stays order k s why body) in absurd (omega arith)
+  started-by s end reach (Refused why) g e = let z : _≡_ {A = ℕ} 0 1 = cc (body-stays order k s why body) in absurd (omega arith)
 
   begun : (s : List ℕ) (end reach : ℕ) → Accepted s end reach → Started k (length s) body l
   begun s end reach e = started-by s end reach (startOf k (length s) body l) refl (ap (λ r. r .answer) (sym (parsed-is order k s body l)) ∙ e)
@@ -124,18 +120,21 @@ module _ (order : ByteOrder) (k : Kind) (body : ℕ) (l : Lists) where
   call-bounds s end reach e =
       let b = begun s end reach e in
       let x = call-is s (b .again (length s) (b .ok)) in
-      bounds order k body l s end reach (ap (λ (v : BodySeen). v .read .answer) (sym x) ∙ e) (b .ok .within)
+      bounds order k body l s end reach (ap (λ (v : BodySeen). v .read .answer) (sym x) ∙ e)
 
-  -- AND NO LESS: of a buffer that is cut below its reach, at B or above, the call is refused
-  pub call-cut : (s : List ℕ) (end reach : ℕ) → Accepted s end reach → (n : ℕ) → body ≤ n → n < reach → IsRefused (callSeen order k body l (take n s) .read .answer)
-  call-cut s end reach e n low m =
-      let b = begun s end reach e in
-      let x = call-is s (b .again (length s) (b .ok)) in
+  -- AND NO LESS: of a buffer that is cut below its reach the call is refused
+  call-cut-by : (s : List ℕ) (end reach n : ℕ) → Accepted s end reach → n < reach → (x : Parsed) → callSeen order k body l (take n s) .read .answer ≡ x → BodyRefused x
+  call-cut-by s end reach n e m (Parseds.Refused why) g = record { why = why; refused = refl }
+  call-cut-by s end reach n e m (Parseds.Read end′ reach′) g =
       let t = length-take n s in
-      let within = call-bounds s end reach e .within in
-      let y = call-is (take n s) (b .again (length (take n s)) (record { most = omega (arith, t, b .ok .most); least = b .ok .least; within = omega (arith, t, within) })) in
-      let z = cut order k body l s end reach (ap (λ (v : BodySeen). v .read .answer) (sym x) ∙ e) (b .ok .within) n low m in
-      record { why = z .why; refused = ap (λ (v : BodySeen). v .read .answer) y ∙ z .refused }
+      let b = call-bounds (take n s) end′ reach′ g in
+      let v = call-needed (take n s) s end′ reach′ g (agrees-take (body - 8) reach′ n s (omega (arith, b .within, t))) (begun s end reach e .ok .most) in
+      let y : _≡_ {A = Parsed} (Parseds.Read end reach) (Parseds.Read end′ reach′) = sym e ∙ ap (λ (x : BodySeen). x .read .answer) v ∙ g in
+      let z : reach ≡ reach′ = cc in
+      absurd (omega (arith, z, b .within, t))
+
+  pub call-cut : (s : List ℕ) (end reach n : ℕ) → Accepted s end reach → n < reach → BodyRefused (callSeen order k body l (take n s) .read .answer)
+  call-cut s end reach n e m = call-cut-by s end reach n e m _ refl
 
   -- bytes after the buffer change nothing
   pub call-extends : (s more : List ℕ) (end reach : ℕ) → Accepted s end reach → length (s ++ more) ≤ 16777216 → callSeen order k body l (s ++ more) ≡ callSeen order k body l s

@@ -1,12 +1,12 @@
 -- Fields that are several numbers.
-use mathlib.Core.Path.{_≡_, refl, sym, ap, _∙_}
+use mathlib.Core.Path.{_≡_, refl, sym, ap, subst, _∙_}
 use Prim.Native.Nat.{ℕ, zero, suc, _+_, _*_, _≤_, _<_}
 use native.Mathlib.Nat.{mul-zero, mul-suc}
 use native.Mathlib.Omega.{arith}
 use mathlib.Core.List.{List}
 use lib.ListN.{length}
 use lib.Dec.{lit≤}
-use Rattle.core.specs.Taken.{Taken, advanced, numberTaken}
+use Rattle.core.specs.Taken.{Taken, numberTaken}
 use Rattle.core.specs.Lists.{numbersTaken, numbersAt}
 use Rattle.core.specs.declared.cursor.ByteOrder.{ByteOrder}
 use Rattle.core.specs.declared.cursor.Cursor.{Cursor}
@@ -23,13 +23,13 @@ module _ (lo r : ℕ) (s s′ : List ℕ) (a : Agrees lo r s s′) (order : Byte
   pub numbers-went : (w n : ℕ) → 0 < w → (p : Place) (d : Cursor) → numbersTaken order w n s p .then ≡ At d
       → Took lo r (length s) (w * n) p d (numbersTaken order w n s′ p ≡ numbersTaken order w n s p)
   unfolding numbersTaken
-  numbers-went w zero h p d e = none _ (Reads (w * 0) d) e (record { reads = rw (mul-zero w) (sym (advanced-zero d)) }) refl
+  numbers-went w zero h p d e = none _ (Reads _ (w * 0) d) e (record { reads = rw (mul-zero w) (sym (advanced-zero d)); room = λ h. absurd (omega (arith, mul-zero w)) }) refl
   numbers-went w (suc n) h p d e =
       let y = numbers-went w n h (numberTaken order w s p .then) d e in
       let x = number-went lo r s s′ a order w h p (y .from) (y .here) in
       let z = on y x in
       let m : w + w * n ≡ w * suc n = omega (arith, mul-suc w n) in
-      so (told z (Reads (w * suc n) d) (record { reads = z .how .reads ∙ ap (advanced (z .from)) m })) (λ u. rw (u .0, u .1))
+      so (told z (Reads _ (w * suc n) d) (subst (λ (k : ℕ). Reads (length s) k d (z .from)) m (z .how))) (λ u. rw (u .0, u .1))
 
   -- a number of 1, 2 or 4 bytes
   pub one : (p : Place) (d : Cursor) → numberTaken order 1 s p .then ≡ At d → Took lo r (length s) 1 p d (numberTaken order 1 s′ p ≡ numberTaken order 1 s p)

@@ -1,23 +1,22 @@
 -- WHAT THE REACH OF A BODY READ MEANS. A body at B is read of a buffer s, and the read is accepted with an end and a reach.
--- Every statement is of a read that the checks 1 to 3 let through, of any kind, in any byte order, with any lists lent.
+-- Every statement is of the run that follows the checks 1 to 3, of any kind, in any byte order, with any lists lent. `Calls` has them of the calls.
 use mathlib.Core.Path.{_≡_, refl, sym, ap, _∙_}
-use Prim.Native.Nat.{ℕ, _+_, _-_, _≤_, _<_}
+use Prim.Native.Nat.{ℕ, _-_, _≤_, _<_}
 use native.Mathlib.Omega.{arith}
 use mathlib.Core.List.{List, _++_}
-use lib.ListN.{length, take, getD, length-take, length-append, List·getD-append}
+use lib.ListN.{length, take, length-take, length-append, List·getD-append}
 use lib.Seq.{getD-take}
 use Rattle.core.specs.Taken.{start}
-use Rattle.core.specs.declared.error.Refusal.{Refusal}
 use Rattle.core.specs.declared.cursor.ByteOrder.{ByteOrder}
 use Rattle.core.proofs.Cursors.{pos-start, reach-start}
 use Rattle.core_checks.specs.declared.checks.Parsed.{Parsed}
 use Rattle.core_checks.specs.declared.checks.Parsed.the-variants as Parseds
-use Rattle.strip_records.specs.Kinds.{lengthOf}
 use Rattle.strip_records.specs.Whole.{Lists}
 use Rattle.strip_records.specs.declared.kind.Kind.{Kind}
 use Rattle.reach.specs.Agrees.{Agrees}
 use Rattle.reach.specs.Seen.{BodySeen, bodySeen}
-use Rattle.reach.proofs.ByKind.{Ran, body-ran}
+use Rattle.reach.specs.Figures.{Bounds, BodyRefused}
+use Rattle.reach.proofs.ByKind.{body-ran}
 
 -- a buffer agrees with itself, with a longer one, and, up to n, with its first n bytes
 pub agrees-self : (lo r : ℕ) (s : List ℕ) → Agrees lo r s s
@@ -26,19 +25,8 @@ agrees-self lo r s = record { long = omega arith; same = λ i l m. refl }
 pub agrees-longer : (lo r : ℕ) (s more : List ℕ) → r ≤ length s → Agrees lo r s (s ++ more)
 agrees-longer lo r s more h = record { long = rw length-append (omega arith); same = λ i l m. sym (List·getD-append s more 0 i (omega arith)) }
 
-agrees-take : (lo r n : ℕ) (s : List ℕ) → r ≤ n → Agrees lo r (take n s) s
+pub agrees-take : (lo r n : ℕ) (s : List ℕ) → r ≤ n → Agrees lo r (take n s) s
 agrees-take lo r n s h = record { long = rw length-take (omega arith); same = λ i l m. getD-take n s i 0 (omega arith) }
-
--- a refusal
-pub record IsRefused (x : Parsed) : Type 0 where
-  pub why : Refusal
-  pub refused : x ≡ Parseds.Refused why
-
--- the fixed bytes of the kind are among those read, so is the end, and all of them are in the buffer
-pub record Bounds (k : Kind) (body n end reach : ℕ) : Type 0 where
-  pub fixed : body + lengthOf k ≤ reach
-  pub ended : end ≤ reach
-  pub within : reach ≤ n
 
 module _ (order : ByteOrder) (k : Kind) (body : ℕ) (l : Lists) where
   abbrev Accepted : List ℕ → ℕ → ℕ → Type 0
@@ -52,34 +40,33 @@ module _ (order : ByteOrder) (k : Kind) (body : ℕ) (l : Lists) where
       let c : x .went .from ≡ start body = cc (x .went .here) in
       x .went .same (rw (c, pos-start) (omega arith)) (omega (arith, x .far))
 
-  pub bounds : (s : List ℕ) (end reach : ℕ) → Accepted s end reach → body ≤ length s → Bounds k body (length s) end reach
-  bounds s end reach e h =
+  pub bounds : (s : List ℕ) (end reach : ℕ) → Accepted s end reach → Bounds k body (length s) end reach
+  bounds s end reach e =
       let x = body-ran order body l k s s end reach e (agrees-self (body - 8) reach s) in
       let c : x .went .from ≡ start body = cc (x .went .here) in
       let v = x .went .how c in
-      let i : x .went .from .reach ≤ length s = rw (c, reach-start) h in
+      let i : x .went .from .reach ≤ length s = rw (c, reach-start) (omega (arith, v .base)) in
       record {
-        fixed = omega (arith, v .0, x .far);
-        ended = omega (arith, v .1, x .far, x .stop);
+        fixed = omega (arith, v .fixed, x .far);
+        ended = omega (arith, v .ended, x .far, x .stop);
         within = omega (arith, x .went .within i, x .far);
+        straight = λ b. omega (arith, v .level b, x .far, x .stop);
       }
 
   -- AND NO LESS: of a buffer that is cut below its reach the read is refused
-  cut-by : (s : List ℕ) (end reach : ℕ) → Accepted s end reach → body ≤ length s → (n : ℕ) → body ≤ n → n < reach
-      → (x : Parsed) → bodySeen order k body l (take n s) .read .answer ≡ x → IsRefused x
-  cut-by s end reach e h n low m (Parseds.Refused why) g = record { why = why; refused = refl }
-  cut-by s end reach e h n low m (Parseds.Read end′ reach′) g =
+  cut-by : (s : List ℕ) (end reach n : ℕ) → Accepted s end reach → n < reach → (x : Parsed) → bodySeen order k body l (take n s) .read .answer ≡ x → BodyRefused x
+  cut-by s end reach n e m (Parseds.Refused why) g = record { why = why; refused = refl }
+  cut-by s end reach n e m (Parseds.Read end′ reach′) g =
       let t = length-take n s in
-      let b = bounds (take n s) end′ reach′ g (omega (arith, t)) in
+      let b = bounds (take n s) end′ reach′ g in
       let v = needed (take n s) s end′ reach′ g (agrees-take (body - 8) reach′ n s (omega (arith, b .within, t))) in
       let y : _≡_ {A = Parsed} (Parseds.Read end reach) (Parseds.Read end′ reach′) = sym e ∙ ap (λ (x : BodySeen). x .read .answer) v ∙ g in
       let z : reach ≡ reach′ = cc in
       absurd (omega (arith, z, b .within, t))
 
-  pub cut : (s : List ℕ) (end reach : ℕ) → Accepted s end reach → body ≤ length s → (n : ℕ) → body ≤ n → n < reach
-      → IsRefused (bodySeen order k body l (take n s) .read .answer)
-  cut s end reach e h n low m = cut-by s end reach e h n low m _ refl
+  pub cut : (s : List ℕ) (end reach n : ℕ) → Accepted s end reach → n < reach → BodyRefused (bodySeen order k body l (take n s) .read .answer)
+  cut s end reach n e m = cut-by s end reach n e m _ refl
 
   -- so bytes after the buffer change nothing
-  pub read-extends : (s more : List ℕ) (end reach : ℕ) → Accepted s end reach → body ≤ length s → bodySeen order k body l (s ++ more) ≡ bodySeen order k body l s
-  read-extends s more end reach e h = needed s (s ++ more) end reach e (agrees-longer (body - 8) reach s more (bounds s end reach e h .within))
+  pub read-extends : (s more : List ℕ) (end reach : ℕ) → Accepted s end reach → bodySeen order k body l (s ++ more) ≡ bodySeen order k body l s
+  read-extends s more end reach e = needed s (s ++ more) end reach e (agrees-longer (body - 8) reach s more (bounds s end reach e .within))

@@ -1,12 +1,12 @@
 -- What a picture and an alignment pane have beyond the base.
-use mathlib.Core.Path.{_≡_, refl, sym, ap, _∙_}
-use Prim.Native.Nat.{ℕ, _+_, _*_, _≤_, _<_}
+use mathlib.Core.Path.{_≡_, refl, sym, ap}
+use Prim.Native.Nat.{ℕ, _*_}
 use native.Mathlib.Omega.{arith}
 use mathlib.Core.Bool.{Bool, true, false, cond}
 use mathlib.Core.List.{List}
 use lib.ListN.{length}
 use lib.Dec.{lit≤, eqb}
-use Rattle.core.specs.Taken.{advanced, numberTaken}
+use Rattle.core.specs.Taken.{numberTaken}
 use Rattle.core.specs.Lists.{numbersTaken}
 use Rattle.core.specs.declared.cursor.ByteOrder.{ByteOrder}
 use Rattle.core.specs.declared.cursor.Cursor.{Cursor}
@@ -21,7 +21,7 @@ use Rattle.reach.proofs.Steps.{Reads, Took, Owned, told, so, on, owned,
 use Rattle.reach.proofs.Fields.{one, two, four, numbers-went, colors-went}
 
 module _ (lo r : ℕ) (s s′ : List ℕ) (a : Agrees lo r s s′) (order : ByteOrder) where
-  pub alignment-went : (body : ℕ) (p : Place) (d : Cursor) → alignmentTaken order s p .then ≡ At d → Owned lo r (length s) body 88 p d (alignmentTaken order s′ p ≡ alignmentTaken order s p)
+  pub alignment-went : (body : ℕ) (p : Place) (d : Cursor) → alignmentTaken order s p .then ≡ At d → Owned lo r (length s) body 88 false p d (alignmentTaken order s′ p ≡ alignmentTaken order s p)
   unfolding alignmentTaken
   alignment-went body p d e =
       let p₁ : Place = numberTaken order 4 s p .then in
@@ -41,14 +41,14 @@ module _ (lo r : ℕ) (s s′ : List ℕ) (a : Agrees lo r s s′) (order : Byte
   shape-by : (byte : ℕ) (b : Bool) → eqb byte 0 ≡ b → (p : Place) (d : Cursor) → shapeTaken order s p byte .then ≡ At d
       → Took lo r (length s) (shapeWidth byte) p d (shapeTaken order s′ p byte ≡ shapeTaken order s p byte)
   unfolding shapeTaken
-  shape-by byte true f p d e = none _ (Reads (shapeWidth byte) d) (rw f at e) (record { reads = rw f (sym (advanced-zero d)) }) (rw f)
+  shape-by byte true f p d e = none _ (Reads _ (shapeWidth byte) d) (rw f at e) (rw f (record { reads = sym (advanced-zero d); room = λ h. absurd (omega arith) })) (rw f)
   shape-by byte false f p d e =
       let x = four lo r s s′ a order p d (rw f at e) in
-      so (told x (Reads (shapeWidth byte) d) (record { reads = rw f (x .how .reads) })) (λ u. rw (f, u))
+      so (told x (Reads _ (shapeWidth byte) d) (rw f (x .how))) (λ u. rw (f, u))
 
   -- with the numbers of its quads
   pub picture-went : (body : ℕ) (p : Place) (d : Cursor) → pictureTaken order s p .then ≡ At d
-      → Owned lo r (length s) body 96 p d ((pictureTaken order s′ p ≡ pictureTaken order s p) × (quadsOf order s′ (pictureTaken order s p) ≡ quadsOf order s (pictureTaken order s p)))
+      → Owned lo r (length s) body 96 false p d ((pictureTaken order s′ p ≡ pictureTaken order s p) × (quadsOf order s′ (pictureTaken order s p) ≡ quadsOf order s (pictureTaken order s p)))
   unfolding pictureTaken quadsOf
   picture-went body p d e =
       let p₁ : Place = colorsTaken order s p .then in

@@ -1,10 +1,11 @@
 -- The base.
-use mathlib.Core.Path.{_≡_, refl, sym, ap, _∙_}
-use Prim.Native.Nat.{ℕ, _≤_, _<_}
+use mathlib.Core.Path.{_≡_}
+use Prim.Native.Nat.{ℕ, _<_}
+use native.Mathlib.Omega.{arith}
 use mathlib.Core.List.{List}
 use lib.ListN.{length}
 use lib.Dec.{lit≤}
-use Rattle.core.specs.Taken.{numberTaken, stringTaken, string24Taken, string8Taken}
+use Rattle.core.specs.Taken.{numberTaken, string24Taken, string8Taken}
 use Rattle.core.specs.declared.cursor.ByteOrder.{ByteOrder}
 use Rattle.core.specs.declared.cursor.Cursor.{Cursor}
 use Rattle.core.specs.declared.cursor.Place.{Place}
@@ -12,8 +13,8 @@ use Rattle.core.specs.declared.cursor.Place.the-variants.{At}
 use Rattle.ui2d.specs.Parts.{vector2Taken, vector3Taken}
 use Rattle.pane_read.specs.Pane.{paneTaken}
 use Rattle.reach.specs.Agrees.{Agrees}
-use Rattle.reach.proofs.Steps.{Took, so, on, number-room, string-room, string-went}
-use Rattle.reach.proofs.Fields.{one, four, vector2-went, vector3-went}
+use Rattle.reach.proofs.Steps.{Took, so, on, string-went}
+use Rattle.reach.proofs.Fields.{one, vector2-went, vector3-went}
 
 module _ (lo r : ℕ) (s s′ : List ℕ) (a : Agrees lo r s s′) (order : ByteOrder) where
   string24-went : (p : Place) (d : Cursor) → string24Taken s p .then ≡ At d → d .pos < length s → Took lo r (length s) 24 p d (string24Taken s′ p ≡ string24Taken s p)
@@ -23,19 +24,6 @@ module _ (lo r : ℕ) (s s′ : List ℕ) (a : Agrees lo r s s′) (order : Byte
   string8-went : (p : Place) (d : Cursor) → string8Taken s p .then ≡ At d → d .pos < length s → Took lo r (length s) 8 p d (string8Taken s′ p ≡ string8Taken s p)
   unfolding string8Taken
   string8-went p d e k = so (string-went lo r s s′ a 8 (lit≤ tt) p d e k) (λ u. rw u)
-
-  -- a vector, and a string, that were read had a byte
-  vector3-room : (c d : Cursor) → vector3Taken order s (At c) .then ≡ At d → c .pos < length s
-  unfolding vector3Taken
-  vector3-room c d e =
-      let q : Place = numberTaken order 4 s (At c) .then in
-      let y = four lo r s s′ a order (numberTaken order 4 s q .then) d e in
-      let x = four lo r s s′ a order q (y .from) (y .here) in
-      number-room lo r s s′ a order 4 (lit≤ tt) c (x .from) _ refl (x .here)
-
-  string8-room : (c d : Cursor) → string8Taken s (At c) .then ≡ At d → c .pos < length s
-  unfolding string8Taken
-  string8-room c d e = string-room lo r s s′ a 8 c d _ refl e
 
   pub pane-went : (p : Place) (d : Cursor) → paneTaken order s p .then ≡ At d → Took lo r (length s) 76 p d (paneTaken order s′ p ≡ paneTaken order s p)
   unfolding paneTaken
@@ -52,9 +40,9 @@ module _ (lo r : ℕ) (s s′ : List ℕ) (a : Agrees lo r s s′) (order : Byte
       let w₉ = vector2-went lo r s s′ a order p₈ (w₁₀ .from) (w₁₀ .here) in
       let w₈ = vector3-went lo r s s′ a order p₇ (w₉ .from) (w₉ .here) in
       let w₇ = vector3-went lo r s s′ a order p₆ (w₈ .from) (w₈ .here) in
-      let r₇ = vector3-room (w₇ .from) (w₈ .from) (ap (λ (q : Place). vector3Taken order s q .then) (sym (w₇ .here)) ∙ w₈ .here) in
+      let r₇ : w₇ .from .pos < length s = omega (arith, w₇ .how .room (lit≤ tt)) in
       let w₆ = string8-went p₅ (w₇ .from) (w₇ .here) r₇ in
-      let r₆ = string8-room (w₆ .from) (w₇ .from) (ap (λ (q : Place). string8Taken s q .then) (sym (w₆ .here)) ∙ w₇ .here) in
+      let r₆ : w₆ .from .pos < length s = omega (arith, w₆ .how .room (lit≤ tt)) in
       let w₅ = string24-went p₄ (w₆ .from) (w₆ .here) r₆ in
       let w₄ = one lo r s s′ a order p₃ (w₅ .from) (w₅ .here) in
       let w₃ = one lo r s s′ a order p₂ (w₄ .from) (w₄ .here) in

@@ -1,10 +1,10 @@
 -- WHAT THE REACH OF A SECTION READ MEANS. The section at P is a pane whose body stands at P + 8.
-use mathlib.Core.Path.{_≡_, refl, sym, ap, _∙_}
-use Prim.Native.Nat.{ℕ, _+_, _-_, _%_, _≤_, max}
+use mathlib.Core.Path.{_≡_, refl, sym, ap, subst, _∙_}
+use Prim.Native.Nat.{ℕ, _+_, _-_, _%_, _≤_, _<_, max}
 use native.Mathlib.Omega.{arith}
 use mathlib.Core.Bool.{Bool, true, false, cond, _||_}
 use mathlib.Core.List.{List, _++_}
-use lib.ListN.{length}
+use lib.ListN.{length, take, length-take}
 use lib.Dec.{lit≤, eqb, ltb}
 use borrow.Author.Tests.{ltb-false, le-ltb, ne-eqb}
 use Rattle.core.specs.Taken.{start, advanced, numberTaken}
@@ -18,11 +18,12 @@ use Rattle.core.proofs.Cursors.{advanced-some, pos-start, reach-start}
 use Rattle.core.proofs.Runs.{cleared}
 use Rattle.core_checks.specs.declared.checks.Parsed.{Parsed}
 use Rattle.core_checks.specs.declared.checks.Parsed.the-variants as Parseds
-use Rattle.core_checks.proofs.Checked.{or-false}
+use Rattle.core_checks.proofs.Checked.{SectionOk, or-false}
 use Rattle.strip_header.specs.Header.{readStart, sizeBad, headerTaken}
 use Rattle.strip_header.specs.declared.Header.{Header}
+use Rattle.strip_header.specs.declared.Section.{Section}
 use Rattle.strip_header.specs.declared.Section.the-variants as Sections
-use Rattle.strip_records.specs.Kinds.{lengthOf, kindOf}
+use Rattle.strip_records.specs.Kinds.{kindOf}
 use Rattle.strip_records.specs.Whole.{Lists, Full}
 use Rattle.strip_records.specs.declared.kind.Kind.{Kind}
 use Rattle.strip_records.specs.declared.kind.Kind.the-variants.{Pan1, Pic1, Txt1, Wnd1, Ali1}
@@ -34,13 +35,14 @@ use Rattle.strip_kinds.specs.Body.{bodyRead}
 use Rattle.strip_read.specs.Read.{refusedWith, endedWith, passedWith, finished, readBody, byKind, listsByKind, orRefused, readAt, readSection, listsAt, listsAfter}
 use Rattle.strip_read.specs.declared.read.SectionRead.{SectionRead}
 use Rattle.strip_read.proofs.Cleared.{read-started}
-use Rattle.strip.proofs.Back.{start-good}
+use Rattle.strip.proofs.Back.{start-good, section-end}
 use Rattle.reach.specs.Agrees.{Agrees}
 use Rattle.reach.specs.Seen.{BodySeen, bodySeen, SectionSeen, sectionSeen}
+use Rattle.reach.specs.Figures.{Bounds, SectionRefused}
 use Rattle.reach.proofs.Steps.{on, number-went}
-use Rattle.reach.proofs.Needed.{agrees-self, agrees-longer, needed, bounds}
+use Rattle.reach.proofs.Needed.{agrees-self, agrees-longer, agrees-take, needed, bounds}
 
--- ---- answers that are a pane
+-- ---- answers
 
 record Through (q : Place) : Type 0 where
   cursor : Cursor
@@ -50,15 +52,35 @@ record OfKind (k : KindFound) : Type 0 where
   kind : Kind
   is : k ≡ Is kind
 
-or-pane : (q : Place) (r : SectionRead) (x n f : ℕ) → orRefused q r .answer ≡ Sections.Pane x n f → Through q × (r .answer ≡ Sections.Pane x n f)
-unfolding orRefused refusedWith
-or-pane (At c) r x n f e = (record { cursor = c; here = refl }, e)
-or-pane (Refused why) r x n f e = let z : _≡_ {A = ℕ} 0 1 = cc in absurd (omega arith)
+-- no refusal; no refusal and no end
+Given : Section → Type 0
+Given Sections.End = Unit {0}
+Given (Sections.Passed next) = Unit {0}
+Given (Sections.Pane end next reach) = Unit {0}
+Given (Sections.Refused why) = ⊥
 
-some-pane : (b : Bool) (r : SectionRead) (x n f : ℕ) → cond b endedWith r .answer ≡ Sections.Pane x n f → (b ≡ false) × (r .answer ≡ Sections.Pane x n f)
-unfolding endedWith
-some-pane true r x n f e = let z : _≡_ {A = ℕ} 0 1 = cc in absurd (omega arith)
-some-pane false r x n f e = (refl, e)
+Found : Section → Type 0
+Found Sections.End = ⊥
+Found (Sections.Passed next) = Unit {0}
+Found (Sections.Pane end next reach) = Unit {0}
+Found (Sections.Refused why) = ⊥
+
+found-given : (x : Section) → Found x → Given x
+unfolding Found Given
+found-given (Sections.Passed next) f = tt
+found-given (Sections.Pane end next reach) f = tt
+found-given Sections.End f = absurd f
+found-given (Sections.Refused why) f = absurd f
+
+or-given : (q : Place) (r : SectionRead) (x : Section) → Given x → orRefused q r .answer ≡ x → Through q × (r .answer ≡ x)
+unfolding orRefused refusedWith Given
+or-given (At c) r x g e = (record { cursor = c; here = refl }, e)
+or-given (Refused why) r x g e = absurd (subst Given (sym e) g)
+
+some-found : (b : Bool) (r : SectionRead) (x : Section) → Found x → cond b endedWith r .answer ≡ x → (b ≡ false) × (r .answer ≡ x)
+unfolding endedWith Found
+some-found true r x g e = absurd (subst Found (sym e) g)
+some-found false r x g e = (refl, e)
 
 kind-pane : (order : ByteOrder) (k : KindFound) (s : List ℕ) (p : Place) (body next x n f : ℕ) → byKind order k s p body next .answer ≡ Sections.Pane x n f → OfKind k
 unfolding byKind passedWith
@@ -69,6 +91,12 @@ finished-pane : (a : Parsed) (r : Record) (next x n f : ℕ) → finished a next
 unfolding finished refusedWith
 finished-pane (Parseds.Read end reach) r next x n f e = (cc, cc)
 finished-pane (Parseds.Refused why) r next x n f e = let z : _≡_ {A = ℕ} 0 1 = cc in absurd (omega arith)
+
+-- a body is read or refused, and neither passed nor met as the end
+body-not : (a : Parsed) (r : Record) (next : ℕ) → ((n : ℕ) → finished a next r .answer ≡ Sections.Passed n → ⊥) × (finished a next r .answer ≡ Sections.End → ⊥)
+unfolding finished refusedWith
+body-not (Parseds.Read end reach) r next = (λ n e. let z : _≡_ {A = ℕ} 0 1 = cc in omega arith, λ e. let z : _≡_ {A = ℕ} 0 1 = cc in omega arith)
+body-not (Parseds.Refused why) r next = (λ n e. let z : _≡_ {A = ℕ} 0 1 = cc in omega arith, λ e. let z : _≡_ {A = ℕ} 0 1 = cc in omega arith)
 
 -- ---- the header of a section, and its kind
 
@@ -135,6 +163,24 @@ seen-as : (order : ByteOrder) (s : List ℕ) (p : ℕ) (l : Lists) (h : Header) 
 unfolding readSection listsAfter orRefused unlessRefused readAt listsAt byKind listsByKind readBody finished
 seen-as order s p l h kind o end reach e = rw (o .begins, o .more, o .header, o .body, o .is, e)
 
+-- a header that was found: the checks let through, and a section is there
+record Headed (order : ByteOrder) (s : List ℕ) (p : ℕ) (l : Lists) (x : Section) : Type 0 where
+  ok : SectionOk (length s) p
+  full : Full l
+  more : eqb p (length s) ≡ false
+  then : Through (headerTaken order s p .then)
+  rest : byKind order (kindOf (headerTaken order s p .letters)) s (headerTaken order s p .then) (p + 8) (p + headerTaken order s p .size) .answer ≡ x
+
+headed : (order : ByteOrder) (s : List ℕ) (p : ℕ) (l : Lists) (x : Section) → Found x → readSection order s p l .answer ≡ x → Headed order s p l x
+unfolding readSection readAt
+headed order s p l x g e =
+    let h : Header = headerTaken order s p in
+    let (t, e₁) = or-given _ (cond (eqb p (length s)) endedWith (readAt order s p)) x (found-given x g) e in
+    let (m, e₂) = some-found (eqb p (length s)) (readAt order s p) x g e₁ in
+    let (v, e₃) = or-given (h .then) (byKind order (kindOf (h .letters)) s (h .then) (p + 8) (p + h .size)) x (found-given x g) e₂ in
+    let (ok, full) = read-started (length s) p l (t .cursor) (t .here) in
+    record { ok = ok; full = full; more = m; then = v; rest = e₃ }
+
 record Opened (order : ByteOrder) (s : List ℕ) (p : ℕ) (l : Lists) (end next reach : ℕ) : Type 0 where
   header : Header
   kind : Kind
@@ -143,6 +189,7 @@ record Opened (order : ByteOrder) (s : List ℕ) (p : ℕ) (l : Lists) (end next
   size : p + header .size ≡ next
   room : p + 8 ≤ length s
   whole : p % 4 ≡ 0
+  small : p ≤ 16777216
   full : Full l
 
 body-pane : (order : ByteOrder) (s : List ℕ) (k : KindFound) (kind : Kind) (q : Place) (c : Cursor) (body next x n f : ℕ) → k ≡ Is kind → q ≡ At c
@@ -152,25 +199,23 @@ body-pane order s k kind q c body next x n f g h e =
     finished-pane (bodyRead order kind s (At c) body .answer) (bodyRead order kind s (At c) body .«record») next x n f (rw (g, h) at e)
 
 opened : (order : ByteOrder) (s : List ℕ) (p : ℕ) (l : Lists) (end next reach : ℕ) → readSection order s p l .answer ≡ Sections.Pane end next reach → Opened order s p l end next reach
-unfolding readSection readAt
+unfolding Found
 opened order s p l end next reach e =
     let h : Header = headerTaken order s p in
-    let (t, e₁) = or-pane _ (cond (eqb p (length s)) endedWith (readAt order s p)) end next reach e in
-    let (m, e₂) = some-pane (eqb p (length s)) (readAt order s p) end next reach e₁ in
-    let (v, e₃) = or-pane (h .then) (byKind order (kindOf (h .letters)) s (h .then) (p + 8) (p + h .size)) end next reach e₂ in
-    let k = kind-pane order (kindOf (h .letters)) s (h .then) (p + 8) (p + h .size) end next reach e₃ in
-    let (ok, full) = read-started (length s) p l (t .cursor) (t .here) in
-    let g = header-seen order p 0 s s (agrees-self p 0 s) (ok .within) (v .cursor) (v .here) in
-    let (r, n) = body-pane order s (kindOf (h .letters)) (k .kind) (h .then) (start (p + 8)) (p + 8) (p + h .size) end next reach (k .is) (g .ends) e₃ in
+    let t = headed order s p l (Sections.Pane end next reach) tt e in
+    let k = kind-pane order (kindOf (h .letters)) s (h .then) (p + 8) (p + h .size) end next reach (t .rest) in
+    let g = header-seen order p 0 s s (agrees-self p 0 s) (t .ok .within) (t .then .cursor) (t .then .here) in
+    let (r, n) = body-pane order s (kindOf (h .letters)) (k .kind) (h .then) (start (p + 8)) (p + 8) (p + h .size) end next reach (k .is) (g .ends) (t .rest) in
     record {
       header = h;
       kind = k .kind;
-      opens = record { begins = start-good (length s) p l ok full; more = m; header = refl; body = g .ends; is = k .is };
+      opens = record { begins = start-good (length s) p l (t .ok) (t .full); more = t .more; header = refl; body = g .ends; is = k .is };
       read = r;
       size = n;
       room = g .room;
-      whole = ok .whole;
-      full = full;
+      whole = t .ok .whole;
+      small = omega (arith, t .ok .most, t .ok .within);
+      full = t .full;
     }
 
 -- the same section of a longer buffer that has the header's bytes
@@ -189,24 +234,44 @@ opens-still order s s′ p l end next reach o a far small =
 
 -- ---- the theorems
 
--- every kind has the base
-least : (k : Kind) → 76 ≤ lengthOf k
-least Pan1 = lit≤ tt
-least Pic1 = lit≤ tt
-least Txt1 = lit≤ tt
-least Wnd1 = lit≤ tt
-least Ali1 = lit≤ tt
+-- the record is of the kind that was read
+kind-read : (order : ByteOrder) (k : Kind) (s : List ℕ) (q : Place) (body : ℕ) → bodyRead order k s q body .«record» .kind ≡ k
+unfolding bodyRead
+kind-read order Pan1 s q body = refl
+kind-read order Pic1 s q body = refl
+kind-read order Txt1 s q body = refl
+kind-read order Wnd1 s q body = refl
+kind-read order Ali1 s q body = refl
+
+-- what a section that is there, of a kind, is not
+kind-not : (order : ByteOrder) (s : List ℕ) (k : KindFound) (kind : Kind) (q : Place) (body next n : ℕ) → k ≡ Is kind → byKind order k s q body next .answer ≡ Sections.Passed n → ⊥
+unfolding byKind readBody
+kind-not order s k kind q body next n h e = body-not (bodyRead order kind s q body .answer) (bodyRead order kind s q body .«record») next .0 n (rw h at e)
+
+kind-no-end : (order : ByteOrder) (k : KindFound) (s : List ℕ) (q : Place) (body next : ℕ) → byKind order k s q body next .answer ≡ Sections.End → ⊥
+unfolding byKind readBody passedWith
+kind-no-end order (Is kind) s q body next e = body-not (bodyRead order kind s q body .answer) (bodyRead order kind s q body .«record») next .1 e
+kind-no-end order Other s q body next e = let z : _≡_ {A = ℕ} 0 1 = cc in omega arith
+
+end-not : (order : ByteOrder) (s : List ℕ) (p : ℕ) (l : Lists) → (p ≡ length s → ⊥) → readSection order s p l .answer ≡ Sections.End → ⊥
+unfolding readSection readAt Given
+end-not order s p l n e =
+    let h : Header = headerTaken order s p in
+    let e₁ = or-given _ (cond (eqb p (length s)) endedWith (readAt order s p)) Sections.End tt e .1 in
+    let e₂ : readAt order s p .answer ≡ Sections.End = rw (ne-eqb p (length s) n) at e₁ in
+    kind-no-end order (kindOf (h .letters)) s (h .then) (p + 8) (p + h .size) (or-given (h .then) _ Sections.End tt e₂ .1)
 
 module _ (order : ByteOrder) (p : ℕ) (l : Lists) where
   abbrev IsPane : List ℕ → ℕ → ℕ → ℕ → Type 0
   IsPane s end next reach = sectionSeen order p l s .read .answer ≡ Sections.Pane end next reach
 
-  -- the header and the base were read, the end is among what was read, and all of it is in the buffer
-  pub section-bounds : (s : List ℕ) (end next reach : ℕ) → IsPane s end next reach → (p + 84 ≤ reach) × (end ≤ reach) × (reach ≤ length s)
+  -- by the kind of the record
+  pub section-bounds : (s : List ℕ) (end next reach : ℕ) → IsPane s end next reach → Bounds (sectionSeen order p l s .read .«record» .kind) (p + 8) (length s) end reach
   section-bounds s end next reach e =
       let o = opened order s p l end next reach e in
-      let b = bounds order (o .kind) (p + 8) l s end reach (o .read) (o .room) in
-      (omega (arith, b .fixed, least (o .kind)), b .ended, b .within)
+      let x = seen-as order s p l (o .header) (o .kind) (o .opens) end reach (o .read) in
+      let k : sectionSeen order p l s .read .«record» .kind ≡ o .kind = ap (λ (v : SectionSeen). v .read .«record» .kind) x ∙ kind-read order (o .kind) s (At (start (p + 8))) (p + 8) in
+      subst (λ (z : Kind). Bounds z (p + 8) (length s) end reach) (sym k) (bounds order (o .kind) (p + 8) l s end reach (o .read))
 
   -- THE PART THAT A SECTION NEEDED: the bytes of [P, reach) decide the read. Another buffer, no shorter and no longer than check 1 lets through, that
   -- has these bytes there gives the same answer, record, lists and label
@@ -214,11 +279,11 @@ module _ (order : ByteOrder) (p : ℕ) (l : Lists) where
       → sectionSeen order p l s′ ≡ sectionSeen order p l s
   section-needed s s′ end next reach e a small =
       let o = opened order s p l end next reach e in
-      let far : p + 84 ≤ reach = section-bounds s end next reach e .0 in
+      let far : p + 8 ≤ reach = omega (arith, section-bounds s end next reach e .fixed) in
       let i : p + 8 - 8 ≡ p = omega arith in
       let n = needed order (o .kind) (p + 8) l s s′ end reach (o .read) (rw i a) in
       let x = seen-as order s p l (o .header) (o .kind) (o .opens) end reach (o .read) in
-      let y = seen-as order s′ p l (o .header) (o .kind) (opens-still order s s′ p l end next reach o a (omega (arith, far)) small) end reach
+      let y = seen-as order s′ p l (o .header) (o .kind) (opens-still order s s′ p l end next reach o a far small) end reach
       (ap (λ (b : BodySeen). b .read .answer) n ∙ o .read) in
       y ∙ ap (sectionOf end (p + o .header .size) reach) n ∙ sym x
 
@@ -226,4 +291,42 @@ module _ (order : ByteOrder) (p : ℕ) (l : Lists) where
   pub section-extends : (s more : List ℕ) (end next reach : ℕ) → IsPane s end next reach → length (s ++ more) ≤ 16777216
       → sectionSeen order p l (s ++ more) ≡ sectionSeen order p l s
   section-extends s more end next reach e small =
-      section-needed s (s ++ more) end next reach e (agrees-longer p reach s more (section-bounds s end next reach e .2)) small
+      section-needed s (s ++ more) end next reach e (agrees-longer p reach s more (section-bounds s end next reach e .within)) small
+
+  -- AND NO LESS: of a buffer that is cut below its reach the read is refused, but for one that is cut right at P, which ends there
+  section-cut-by : (s : List ℕ) (end next reach n : ℕ) → IsPane s end next reach → (n ≡ p → ⊥) → n < reach
+      → (x : Section) → sectionSeen order p l (take n s) .read .answer ≡ x → SectionRefused x
+  unfolding Found
+  section-cut-by s end next reach n e other m (Sections.Refused why) g = record { why = why; refused = refl }
+  section-cut-by s end next reach n e other m Sections.End g =
+      let t = length-take n s in
+      let w = section-bounds s end next reach e .within in
+      absurd (end-not order (take n s) p l (λ z. other (omega (arith, z, t, w))) g)
+  section-cut-by s end next reach n e other m (Sections.Passed to) g =
+      let t = headed order (take n s) p l (Sections.Passed to) tt g in
+      let h = header-seen order p n (take n s) s (agrees-take p n n s (omega arith)) (t .ok .within) (t .then .cursor) (t .then .here) in
+      let o = opened order s p l end next reach e in
+      let same : headerTaken order s p ≡ headerTaken order (take n s) p = h .same (omega (arith, h .room, length-take n s)) in
+      let k : kindOf (headerTaken order (take n s) p .letters) ≡ Is (o .kind) = rw (← same, o .opens .header) (o .opens .is) in
+      absurd (kind-not order (take n s) _ (o .kind) _ (p + 8) _ to k (t .rest))
+  section-cut-by s end next reach n e other m (Sections.Pane end′ next′ reach′) g =
+      let t = length-take n s in
+      let w = section-bounds (take n s) end′ next′ reach′ g .within in
+      let small : length s ≤ 16777216 = headed order s p l (Sections.Pane end next reach) tt e .ok .most in
+      let v = section-needed (take n s) s end′ next′ reach′ g (agrees-take p reach′ n s (omega (arith, w, t))) small in
+      let y : _≡_ {A = Section} (Sections.Pane end next reach) (Sections.Pane end′ next′ reach′) = sym e ∙ ap (λ (x : SectionSeen). x .read .answer) v ∙ g in
+      let z : reach ≡ reach′ = cc in
+      absurd (omega (arith, z, w, t))
+
+  pub section-cut : (s : List ℕ) (end next reach n : ℕ) → IsPane s end next reach → (n ≡ p → ⊥) → n < reach
+      → SectionRefused (sectionSeen order p l (take n s) .read .answer)
+  section-cut s end next reach n e other m = section-cut-by s end next reach n e other m _ refl
+
+  pub section-cut-end : (s : List ℕ) (end next reach : ℕ) → IsPane s end next reach → sectionSeen order p l (take p s) .read .answer ≡ Sections.End
+  unfolding endedWith
+  section-cut-end s end next reach e =
+      let o = opened order s p l end next reach e in
+      let t : length (take p s) ≡ p = length-take p s ∙ omega (arith, o .room) in
+      let small : length (take p s) ≤ 16777216 = omega (arith, t, o .small) in
+      let x = section-end order (take p s) small (rw t (o .whole)) l (o .full) in
+      ap (λ (v : SectionRead). v .answer) (rw t at x)

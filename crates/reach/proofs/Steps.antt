@@ -3,20 +3,20 @@ use mathlib.Core.Path.{_≡_, refl, sym, ap, subst, _∙_}
 use Prim.Native.Nat.{ℕ, zero, suc, _+_, _-_, _≤_, _<_, min}
 use native.Mathlib.Omega.{arith}
 use mathlib.Core.Bool.{Bool, true, false}
-use mathlib.Core.List.{List, [], _∷_}
-use lib.ListN.{length, take, drop, getD, length-take, length-drop}
+use mathlib.Core.List.{List, _∷_}
+use lib.ListN.{length, getD, length-take, length-drop}
 use lib.Seq.{drop-cons}
 use lib.Dec.{leb, ltb}
 use borrow.Author.Tests.{leb-true, leb-false, ltb-true, ltb-false, le-ltb}
 use Rattle.core.specs.Bytes.{part, numberAt}
-use Rattle.core.specs.Taken.{Taken, advanced, moved, sought, numberTaken, stringTaken}
+use Rattle.core.specs.Taken.{advanced, moved, sought, numberTaken, stringTaken}
 use Rattle.core.specs.declared.cursor.ByteOrder.{ByteOrder}
 use Rattle.core.specs.declared.cursor.Cursor.{Cursor}
 use Rattle.core.specs.declared.cursor.Place.{Place}
 use Rattle.core.specs.declared.cursor.Place.the-variants.{At, Refused}
 use Rattle.core.specs.declared.error.Refusal.{Refusal}
 use Rattle.core.specs.declared.error.Refusal.the-variants.{UnexpectedEof}
-use Rattle.core.proofs.Cursors.{advanced-more, pos-advanced, pos-moved, reach-moved, reach-grows, reach-covers, reach-within}
+use Rattle.core.proofs.Cursors.{advanced-more, pos-advanced, pos-moved, reach-moved, reach-grows, reach-covers, reach-within, reach-level}
 use Rattle.core.proofs.Lists.{number-here}
 use Rattle.core.proofs.Here.{string-here}
 use Rattle.core.proofs.Runs.{short, stays, seek-to, seek-beyond, seek-stays}
@@ -33,12 +33,13 @@ pub record Went (lo r n : ℕ) (How : Cursor → Type 0) (p : Place) (d : Cursor
   pub low : lo ≤ from .pos → lo ≤ d .pos
   pub same : lo ≤ from .pos → d .reach ≤ r → Same
 
--- how: w bytes were read
-pub record Reads (w : ℕ) (d c : Cursor) : Type 0 where
+-- how: w bytes were read, which are among the n
+pub record Reads (n w : ℕ) (d c : Cursor) : Type 0 where
   pub reads : d ≡ advanced c w
+  pub room : 0 < w → c .pos + w ≤ n
 
 abbrev pub Took : ℕ → ℕ → ℕ → ℕ → Place → Cursor → Type 0 → Type 0
-Took lo r n w p d Same = Went lo r n (Reads w d) p d Same
+Took lo r n w p d Same = Went lo r n (Reads n w d) p d Same
 
 -- it was set to a place within the n bytes
 abbrev pub Sought : ℕ → ℕ → ℕ → ℕ → Place → Cursor → Type 0 → Type 0
@@ -55,12 +56,14 @@ Far lo r n w p d Same = Went lo r n (Covers w d) p d Same
 abbrev pub Home : ℕ → ℕ → ℕ → ℕ → Place → Cursor → Type 0 → Type 0
 Home lo r n h p d Same = Went lo r n (λ (c : Cursor). c .pos ≡ h → d .pos ≡ h) p d Same
 
--- what a kind has beyond the base was read: a body at B whose fixed bytes are k; these are all among those read, and the end is
-pub record Owns (body k : ℕ) (d c : Cursor) : Type 0 where
+-- what a kind has beyond the base was read: a body at B whose fixed bytes are k; these lie below the reach, and the end is not past it. Where nothing was
+-- sought, a run that has looked as far as it stands still does
+pub record Owns (body k : ℕ) (sought : Bool) (d c : Cursor) : Type 0 where
   pub owns : c .pos ≡ body + 76 → (body + k ≤ d .reach) × (d .pos ≤ d .reach)
+  pub level : sought ≡ false → c .reach ≡ c .pos → d .reach ≡ d .pos
 
-abbrev pub Owned : ℕ → ℕ → ℕ → ℕ → ℕ → Place → Cursor → Type 0 → Type 0
-Owned lo r n body k p d Same = Went lo r n (Owns body k d) p d Same
+abbrev pub Owned : ℕ → ℕ → ℕ → ℕ → ℕ → Bool → Place → Cursor → Type 0 → Type 0
+Owned lo r n body k sought p d Same = Went lo r n (Owns body k sought d) p d Same
 
 -- anything
 abbrev pub Some : ℕ → ℕ → ℕ → Place → Cursor → Type 0 → Type 0
@@ -88,9 +91,18 @@ after y x How h = record {
 }
 
 -- b bytes read after a others
+room-on : (n a b at : ℕ) → (0 < a → at + a ≤ n) → (0 < b → at + a + b ≤ n) → 0 < a + b → at + (a + b) ≤ n
+room-on n a zero at f g h = omega (arith, f (omega arith))
+room-on n a (suc b) at f g h = omega (arith, g (omega arith))
+
+reads-on : {n a b : ℕ} {c d e : Cursor} → Reads n a d c → Reads n b e d → Reads n (a + b) e c
+reads-on {n} {a} {b} {c} x y = record {
+  reads = y .reads ∙ ap (λ (d : Cursor). advanced d b) (x .reads) ∙ advanced-more c a b;
+  room = room-on n a b (c .pos) (x .room) (λ h. rw (x .reads, pos-advanced) at (y .room h));
+}
+
 pub on : {lo r n a b : ℕ} {p q : Place} {d : Cursor} {X Y : Type 0} (y : Took lo r n b q d Y) → Took lo r n a p (y .from) X → Took lo r n (a + b) p d (X × Y)
-on {a = a} {b = b} {d = d} y x =
-    after y x (Reads (a + b) d) (record { reads = y .how .reads ∙ ap (λ (c : Cursor). advanced c b) (x .how .reads) ∙ advanced-more (x .from) a b })
+on {a = a} {b = b} {d = d} y x = after y x (Reads _ (a + b) d) (reads-on (x .how) (y .how))
 
 -- what was read stays so
 pub took-covers : {lo r n w : ℕ} {p : Place} {d : Cursor} {X : Type 0} → 0 < w → (x : Took lo r n w p d X) → x .from .pos + w ≤ d .reach
@@ -106,13 +118,18 @@ pub any : {lo r n : ℕ} {p q : Place} {d : Cursor} {X Y : Type 0} {A B : Cursor
 any y x = after y x (λ (c : Cursor). Unit {0}) tt
 
 -- with no seek
-pub owned : {lo r n w : ℕ} {p : Place} {d : Cursor} {X : Type 0} (body k : ℕ) → 0 < w → k ≤ 76 + w → Took lo r n w p d X → Owned lo r n body k p d X
-owned {w = w} {d = d} body k h m x =
-    let v = reach-covers (x .from) w h in
-    told x (Owns body k d) (record {
-      owns = λ e.
-          subst (λ (f : Cursor). (body + k ≤ f .reach) × (f .pos ≤ f .reach)) (sym (x .how .reads)) (omega (arith, v, e), omega (arith, v, pos-advanced (x .from) w));
-    })
+read-owns : {n w : ℕ} {c d : Cursor} (body k : ℕ) → 0 < w → k ≤ 76 + w → Reads n w d c → Owns body k false d c
+read-owns {n} {w} {c} body k h m x =
+    let v = reach-covers c w h in
+    let e = pos-advanced c w in
+    rw (x .reads) (record { owns = λ f. (omega (arith, v, f), omega (arith, v, e)); level = λ b f. reach-level c f w ∙ sym e })
+
+pub owned : {lo r n w : ℕ} {p : Place} {d : Cursor} {X : Type 0} (body k : ℕ) → 0 < w → k ≤ 76 + w → Took lo r n w p d X → Owned lo r n body k false p d X
+owned {d = d} body k h m x = told x (Owns body k false d) (read-owns body k h m (x .how))
+
+-- with seeks
+pub owns-sought : (body k : ℕ) (c d : Cursor) → (c .pos ≡ body + 76 → (body + k ≤ d .reach) × (d .pos ≤ d .reach)) → Owns body k true d c
+owns-sought body k c d f = record { owns = f; level = λ b. let z : _≡_ {A = ℕ} 0 1 = cc in absurd (omega arith) }
 
 -- a step that reads nothing, and moves nothing
 pub none : {lo r n : ℕ} {p : Place} {d : Cursor} (Same : Type 0) (How : Cursor → Type 0) → p ≡ At d → How d → Same → Went lo r n How p d Same
@@ -142,7 +159,7 @@ module _ (lo r : ℕ) (s s′ : List ℕ) (a : Agrees lo r s s′) where
       record {
         from = c;
         here = refl;
-        how = record { reads = sym j };
+        how = record { reads = sym j; room = λ h. fit };
         grows = rw (← j) (reach-grows c w);
         within = λ l. rw (← j) (reach-within c w (length s) l fit);
         low = λ l. rw (← j, pos-advanced c w) (omega arith);
@@ -155,12 +172,6 @@ module _ (lo r : ℕ) (s s′ : List ℕ) (a : Agrees lo r s s′) where
       → Took lo r (length s) w p d (numberTaken order w s′ p ≡ numberTaken order w s p)
   number-went order w n (At c) d h = number-went-by order w n c d (leb (c .pos + w) (length s)) refl h
   number-went order w n (Refused why) d h = let z : _≡_ {A = ℕ} 0 1 = cc (stays order w s (Refused why) why refl) in absurd (omega arith)
-
-  -- there was a byte
-  pub number-room : (order : ByteOrder) (w : ℕ) → 0 < w → (c d : Cursor) (b : Bool) → leb (c .pos + w) (length s) ≡ b → numberTaken order w s (At c) .then ≡ At d → c .pos < length s
-  number-room order w n c d true e h = omega (arith, leb-true (c .pos + w) (length s) e)
-  number-room order w n c d false e h =
-      let z : _≡_ {A = ℕ} 0 1 = cc (short order w s (At c) c refl (leb-false (c .pos + w) (length s) e)) in absurd (omega arith)
 
   -- ---- a fixed string, of which a byte follows, so that all of it was there
 
@@ -176,10 +187,6 @@ module _ (lo r : ℕ) (s s′ : List ℕ) (a : Agrees lo r s s′) where
   string-none : (w : ℕ) (c : Cursor) → length s ≤ c .pos → stringTaken w s (At c) .then ≡ Refused (UnexpectedEof (c .pos) w)
   unfolding stringTaken
   string-none w c h = rw (le-ltb (c .pos) (length s) h)
-
-  pub string-room : (w : ℕ) (c d : Cursor) (b : Bool) → ltb (c .pos) (length s) ≡ b → stringTaken w s (At c) .then ≡ At d → c .pos < length s
-  string-room w c d true e h = ltb-true (c .pos) (length s) e
-  string-room w c d false e h = let z : _≡_ {A = ℕ} 0 1 = cc (string-none w c (ltb-false (c .pos) (length s) e)) in absurd (omega arith)
 
   string-by : (w : ℕ) → 0 < w → (c d : Cursor) (b : Bool) → ltb (c .pos) (length s) ≡ b → stringTaken w s (At c) .then ≡ At d → d .pos < length s
       → Took lo r (length s) w (At c) d (stringTaken w s′ (At c) ≡ stringTaken w s (At c))
@@ -197,7 +204,7 @@ module _ (lo r : ℕ) (s s′ : List ℕ) (a : Agrees lo r s s′) where
       record {
         from = c;
         here = refl;
-        how = record { reads = sym j };
+        how = record { reads = sym j; room = λ h. fit };
         grows = rw (← j) (reach-grows c w);
         within = λ l. rw (← j) (reach-within c w (length s) l fit);
         low = λ l. rw (← j, pos-advanced c w) (omega arith);

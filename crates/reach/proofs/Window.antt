@@ -1,7 +1,8 @@
 -- What a window has beyond the base.
-use mathlib.Core.Path.{_≡_, refl, sym, ap, _∙_}
-use Prim.Native.Nat.{ℕ, _+_, _-_, _*_, _≤_, _<_}
+use mathlib.Core.Path.{_≡_, refl, ap, _∙_}
+use Prim.Native.Nat.{ℕ, _+_, _-_, _*_, _≤_}
 use native.Mathlib.Omega.{arith}
+use mathlib.Core.Bool.{true}
 use mathlib.Core.List.{List, [], _∷_}
 use lib.ListN.{length}
 use lib.Dec.{lit≤}
@@ -17,12 +18,12 @@ use Rattle.window_head.specs.declared.WindowHead.{WindowHead}
 use Rattle.window_read.specs.Window.{contentTaken, frameTaken, framesTaken, windowTaken, windowQuads, windowFrames, windowOf}
 use Rattle.window_read.specs.declared.WindowContent.{WindowContent}
 use Rattle.reach.specs.Agrees.{Agrees}
-use Rattle.reach.proofs.Steps.{Took, Owns, Owned, Some, told, so, on, far, past, any, none, seek-went}
+use Rattle.reach.proofs.Steps.{Took, Owns, Owned, Some, told, so, on, far, past, any, none, owns-sought, seek-went}
 use Rattle.reach.proofs.Fields.{one, two, four, numbers-went, colors-went}
 
 -- after the head the run goes home
-window-ends : (body : ℕ) (c d : Cursor) → c .pos + 28 ≤ d .reach → d .pos ≡ body + 104 → Owns body 104 d c
-window-ends body c d g h = record { owns = λ e. (omega (arith, g, e), omega (arith, g, e, h)) }
+window-ends : (body : ℕ) (c d : Cursor) → c .pos + 28 ≤ d .reach → d .pos ≡ body + 104 → Owns body 104 true d c
+window-ends body c d g h = owns-sought body 104 c d (λ e. (omega (arith, g, e), omega (arith, g, e, h)))
 
 module _ (lo r : ℕ) (s s′ : List ℕ) (a : Agrees lo r s s′) (order : ByteOrder) where
   sides-went : (p : Place) (d : Cursor) → sidesTaken order s p .then ≡ At d → Took lo r (length s) 8 p d (sidesTaken order s′ p ≡ sidesTaken order s p)
@@ -87,7 +88,7 @@ module _ (lo r : ℕ) (s s′ : List ℕ) (a : Agrees lo r s s′) (order : Byte
 
   -- with the numbers of its lists
   pub window-went : (body : ℕ) → lo ≤ body - 8 → (p : Place) (d : Cursor) → windowTaken order s p body .then ≡ At d
-      → Owned lo r (length s) body 104 p d
+      → Owned lo r (length s) body 104 true p d
       ((windowTaken order s′ p body ≡ windowTaken order s p body)
       × (windowQuads order s′ (windowTaken order s p body) ≡ windowQuads order s (windowTaken order s p body))
       × (windowFrames order s′ (windowTaken order s p body) body ≡ windowFrames order s (windowTaken order s p body) body))
@@ -112,7 +113,7 @@ module _ (lo r : ℕ) (s s′ : List ℕ) (a : Agrees lo r s s′) (order : Byte
       let w₁ = head-went p (w₂ .from) (w₂ .here) in
       let z = past w₈ (past w₇ (past w₆ (past w₅ (past w₄ (past w₃ (past w₂ (far (lit≤ tt) w₁))))))) in
       let ends = window-ends body (z .from) d (z .how .covers) (w₈ .how .0) in
-      so (told z (Owns body 104 d) ends)
+      so (told z (Owns body 104 true d) ends)
       (λ u. (
         rw (u .0 .0 .0 .0 .0 .0 .0, u .0 .0 .0 .0 .0 .0 .1, u .0 .0 .0 .0 .0 .1, u .0 .0 .0 .0 .1, u .0 .0 .0 .1, u .0 .0 .1, u .0 .1, u .1),
         ap (λ x. x .value) (u .0 .0 .0 .0 .1),

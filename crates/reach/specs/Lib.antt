@@ -1,2 +1,3 @@
 pub mod Agrees
 pub mod Seen
+pub mod Figures

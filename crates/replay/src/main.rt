@@ -185,11 +185,7 @@ fn answer(data: &[u8]) {
             print(b"pass");
             print_figure(next);
         }
-        Section::Pane {
-            end,
-            next,
-            reach: _,
-        } => {
+        Section::Pane { end, next, .. } => {
             print(b"pane");
             print_figure(end);
             print_figure(next);

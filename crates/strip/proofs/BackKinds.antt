@@ -1,6 +1,6 @@
 -- A body that a write lets through is read back, kind by kind, anywhere in a buffer.
 use mathlib.Core.Path.{_≡_, refl, sym, ap, _∙_}
-use Prim.Native.Nat.{ℕ, _+_, _-_, _*_, _/_, _%_, _≤_}
+use Prim.Native.Nat.{ℕ, _+_, _*_, _/_, _%_, _≤_}
 use native.Mathlib.Omega.{arith}
 use mathlib.Core.List.{List}
 use lib.ListN.{length, take, drop}
@@ -105,7 +105,7 @@ readRecord k c body w = record {
   alignment = ownAlignment k w;
 }
 
--- where the read of a body at B that was written as that of w ends, and how far it looks: at all that was written
+-- where the read of a body at B that was written as that of w ends, and how far it looks: where B is a multiple of 4, at all that was written
 abbrev pub bodyEnd : Kind → ℕ → Whole → ℕ
 bodyEnd Pan1 body w = body + 76
 bodyEnd Pic1 body w = body + picture.bodyLength (w .pane .picture) (w .lists .quads)

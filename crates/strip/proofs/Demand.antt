@@ -3,7 +3,7 @@
 -- depend on its place, that equal records have equal sections, that a section is read back, and the end.
 use mathlib.Core.Path.{_≡_, refl, sym, ap, _∙_, subst}
 use mathlib.Core.Logic.{_↔_}
-use Prim.Native.Nat.{ℕ, _+_, _-_, _%_, _≤_}
+use Prim.Native.Nat.{ℕ, _+_, _%_, _≤_}
 use native.Mathlib.Omega.{arith}
 use mathlib.Core.List.{List, [], _∷_, _++_, append-assoc, append-nil}
 use lib.ListN.{length, take, drop, replicate, length-append, length-take, length-replicate}
@@ -27,6 +27,7 @@ use Rattle.strip.specs.Strip.{All, Run, step, runFrom, run, strip, SameA
 use Rattle.strip_read.specs.declared.read.SectionRead.{SectionRead}
 use Rattle.strip_header.specs.declared.Section.{Section}
 use Rattle.strip_header.specs.declared.Section.the-variants as Sections
+use Rattle.strip.specs.Inside.{Inside}
 use Rattle.strip_write.proofs.Cleared.{Accepts, write-cleared}
 use Rattle.strip.proofs.Same.{section-same, same-both}
 use Rattle.strip.proofs.BackKinds.{GoodWhole, bodyEnd, bodyReach, readRecord}
@@ -236,12 +237,17 @@ module _ (order : ByteOrder) where
   run-strip : (ws : List Whole) → All Typed ws → (o : List ℕ) → strip (run order ws o) ≡ sections (run order ws o .kept)
   run-strip ws t o = (grown ws t o 0 (omega arith)) .stripped
 
-  run-gives : (ws : List Whole) → All Typed ws → (o : List ℕ) → Gives order (strip (run order ws o)) 0 (run order ws o .kept) (run order ws o .ends)
-  run-gives ws t o =
+  run-small : (ws : List Whole) → All Typed ws → (o : List ℕ) → length (sections (run order ws o .kept)) ≤ 16777216
+  run-small ws t o =
       let y = run order ws o in
       let g : Grown o 0 y = grown ws t o 0 (omega arith) in
       let n : length (strip y) ≡ y .place = length-take-le (y .place) (y .out) (g .inside) in
-      rw (run-strip ws t o, g .ended) (gives (y .kept) (g .good) [] refl (rw (← run-strip ws t o, n) (g .small (omega arith))))
+      rw (← run-strip ws t o, n) (g .small (omega arith))
+
+  run-gives : (ws : List Whole) → All Typed ws → (o : List ℕ) → Gives order (strip (run order ws o)) 0 (run order ws o .kept) (run order ws o .ends)
+  run-gives ws t o =
+      let g = grown ws t o 0 (omega arith) in
+      rw (run-strip ws t o, g .ended) (gives (run order ws o .kept) (g .good) [] refl (run-small ws t o))
 
 -- DEMAND 3, the whole of it, for all five kinds. Its parts, and the demand's sentences:
 -- `ws`, `vs`: "any list of section writes of pane records, of any kinds in any order, refused ones included"; `o`, `u`: "one output of any length and bytes".
@@ -271,18 +277,6 @@ demand3 order ws vs t r o u = (
 
 -- ---- beside demand 3: how far its reads look
 
--- a read of s at p with l lent gives a pane and the next place e, and looks at no byte from e on
-pub record Looked (order : ByteOrder) (s : List ℕ) (p : ℕ) (l : Lists) (e : ℕ) : Type 0 where
-  pub end : ℕ
-  pub reach : ℕ
-  pub answer : readSection order s p l .answer ≡ Sections.Pane end e reach
-  pub inside : reach ≤ e
-
--- reading s from p, section by section, with these next places
-unfoldable pub Inside : ByteOrder → List ℕ → ℕ → List ℕ → Type 0
-Inside order s p [] = Unit {0}
-Inside order s p (e ∷ es) = ((l : Lists) → Full l → Looked order s p l e) × Inside order s e es
-
 inside-from : (order : ByteOrder) (ws : List Whole) → All GoodWhole ws → (b : List ℕ) → length b % 4 ≡ 0 → length (b ++ sections order ws) ≤ 16777216
     → Inside order (b ++ sections order ws) (length b) (endsFrom order (length b) ws)
 unfolding Inside sections endsFrom All
@@ -302,7 +296,5 @@ inside-from order (w ∷ ws) g b h k =
 -- NO SECTION OF A STRIP THAT WAS WRITTEN LOOKS PAST ITS END: each read of demand 3 has a reach of at most its next place
 pub strip-inside : (order : ByteOrder) (ws : List Whole) → All Typed ws → (o : List ℕ) → Inside order (strip (run order ws o)) 0 (run order ws o .ends)
 strip-inside order ws t o =
-    let y = run order ws o in
-    let g : Grown order o 0 y = grown order ws t o 0 (omega arith) in
-    let n : length (strip y) ≡ y .place = length-take-le (y .place) (y .out) (g .inside) in
-    rw (run-strip order ws t o, g .ended) (inside-from order (y .kept) (g .good) [] refl (rw (← run-strip order ws t o, n) (g .small (omega arith))))
+    let g = grown order ws t o 0 (omega arith) in
+    rw (run-strip order ws t o, g .ended) (inside-from order (run order ws o .kept) (g .good) [] refl (run-small order ws t o))

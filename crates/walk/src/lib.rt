@@ -25,11 +25,7 @@ fn place_after(place: usize, answer: Section) -> usize
     match answer {
         Section::End => place,
         Section::Passed { next } => next,
-        Section::Pane {
-            end: _,
-            next,
-            reach: _,
-        } => next,
+        Section::Pane { next, .. } => next,
         Section::Refused(_) => place,
     }
 }

@@ -16,7 +16,7 @@ use std::borrow::Cow;
 
 const BYTE: u8 = 0xA5;
 
-/// Of so many panes that were read nnbfl judges the reach of one. A prime, so that no generator keeps in step with it.
+/// Of one pane in so many nnbfl judges the reach. A prime, so that no generator keeps in step with it.
 const JUDGED: u64 = 61;
 
 fn hex(bytes: &[u8]) -> String {

@@ -54,6 +54,14 @@ pub reach-start : (place : ℕ) → start place .reach ≡ place
 unfolding start
 reach-start place = refl
 
+-- a run that begins at a place and reads on has looked as far as it stands
+pub start-advanced : (place w : ℕ) → advanced (start place) w ≡ start (place + w)
+unfolding start
+start-advanced place zero = advanced-zero (start place) ∙ ap start (sym (add-zero place))
+start-advanced place (suc w) =
+    let m : max place (place + suc w) ≡ place + suc w = omega arith in
+    advanced-some (start place) (suc w) (omega arith) ∙ rw m
+
 pub reach-moved : (c : Cursor) (to : ℕ) → moved c to .reach ≡ c .reach
 unfolding moved
 reach-moved c to = refl

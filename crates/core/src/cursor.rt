@@ -57,7 +57,7 @@ impl Cursor {
         }
     }
 
-    // After width bytes were read.
+    // After width bytes were read, which the reach then covers; with none it is the same cursor.
     pub fn advanced(self, width: usize) -> Cursor
         requires { ⌜ self .pos + width < 2 ^ 64 ⌝ }
         ensures { λ r. ⌜ r ≡ advanced self width ⌝ }

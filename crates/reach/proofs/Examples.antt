@@ -1,4 +1,4 @@
--- Worked examples of Note 1 of document 02, by computation: sections at 0 of 140 or 176 bytes whose reach is not their end.
+-- Worked examples for Note 1 of document 02, by computation: sections at 0 of 140 or 176 bytes whose reach is not the next place.
 use mathlib.Core.Path.{_≡_, refl}
 use Prim.Native.Nat.{ℕ}
 use mathlib.Core.List.{List, [], _∷_, _++_}

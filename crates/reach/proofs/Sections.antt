@@ -1,6 +1,6 @@
 -- WHAT THE REACH OF A SECTION READ MEANS. The section at P is a pane whose body stands at P + 8.
 use mathlib.Core.Path.{_≡_, refl, sym, ap, subst, _∙_}
-use Prim.Native.Nat.{ℕ, _+_, _-_, _%_, _≤_, _<_, max}
+use Prim.Native.Nat.{ℕ, _+_, _-_, _%_, _≤_, _<_}
 use native.Mathlib.Omega.{arith}
 use mathlib.Core.Bool.{Bool, true, false, cond, _||_}
 use mathlib.Core.List.{List, _++_}
@@ -14,7 +14,7 @@ use Rattle.core.specs.declared.cursor.ByteOrder.the-variants.{Little}
 use Rattle.core.specs.declared.cursor.Cursor.{Cursor}
 use Rattle.core.specs.declared.cursor.Place.{Place}
 use Rattle.core.specs.declared.cursor.Place.the-variants.{At, Refused}
-use Rattle.core.proofs.Cursors.{advanced-some, pos-start, reach-start}
+use Rattle.core.proofs.Cursors.{start-advanced, pos-start, reach-start}
 use Rattle.core.proofs.Runs.{cleared}
 use Rattle.core_checks.specs.declared.checks.Parsed.{Parsed}
 use Rattle.core_checks.specs.declared.checks.Parsed.the-variants as Parseds
@@ -100,13 +100,6 @@ body-not (Parseds.Refused why) r next = (λ n e. let z : _≡_ {A = ℕ} 0 1 = c
 
 -- ---- the header of a section, and its kind
 
--- a body after a header begins as a body read does
-header-start : (p : ℕ) → advanced (start p) 8 ≡ start (p + 8)
-unfolding start
-header-start p =
-    let m : max p (p + 8) ≡ p + 8 = omega arith in
-    advanced-some (start p) 8 (lit≤ tt) ∙ rw m
-
 -- 8 of a longer buffer
 size-longer : (n m p z : ℕ) → n ≤ m → sizeBad n p z ≡ false → sizeBad m p z ≡ false
 unfolding sizeBad
@@ -130,7 +123,7 @@ header-seen order p r s s′ a fit c e =
     let x = number-went p r s s′ a Little 4 (lit≤ tt) (At (start p)) (y .from) (y .here) in
     let w = on y x in
     let h : w .from ≡ start p = cc (w .here) in
-    let d : c ≡ start (p + 8) = w .how .reads ∙ ap (λ (b : Cursor). advanced b 8) h ∙ header-start p in
+    let d : c ≡ start (p + 8) = w .how .reads ∙ ap (λ (b : Cursor). advanced b 8) h ∙ start-advanced p 8 in
     let far : c .reach ≡ p + 8 = ap (λ (b : Cursor). b .reach) d ∙ reach-start (p + 8) in
     let at : p ≤ w .from .pos = rw (h, pos-start) (omega arith) in
     record {

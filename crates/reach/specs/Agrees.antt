@@ -1,4 +1,4 @@
--- Two buffers that a read cannot tell apart.
+-- A buffer that is no shorter than another and has its bytes between two places.
 use mathlib.Core.Path.{_≡_}
 use Prim.Native.Nat.{ℕ, _≤_, _<_}
 use mathlib.Core.List.{List}

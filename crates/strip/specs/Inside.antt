@@ -14,7 +14,7 @@ pub record Looked (order : ByteOrder) (s : List ℕ) (p : ℕ) (l : Lists) (e : 
   pub answer : readSection order s p l .answer ≡ Sections.Pane end e reach
   pub inside : reach ≤ e
 
--- reading s from p, section by section, with these next places, each with any full lists
+-- reading s from p, section by section, each with any full lists: each read gives a pane with the next place of this list, and looks no further than it
 unfoldable pub Inside : ByteOrder → List ℕ → ℕ → List ℕ → Type 0
 Inside order s p [] = Unit {0}
 Inside order s p (e ∷ es) = ((l : Lists) → Full l → Looked order s p l e) × Inside order s e es

@@ -19,7 +19,7 @@ use Rattle.strip_records.specs.declared.kind.Kind.{Kind}
 use Rattle.strip_records.specs.declared.kind.Kind.the-variants.{Pan1, Pic1, Txt1, Wnd1, Ali1}
 use Rattle.strip_kinds.specs.declared.body.BodyRead.{BodyRead}
 
--- from a place p of the run, of a body at B; what the other kinds have is blank
+-- the body of a kind at B, read by a run that stands at p; what the other kinds have is blank
 unfoldable pub bodyRead : ByteOrder → Kind → List ℕ → Place → ℕ → BodyRead
 bodyRead order Pan1 s p body =
     let r : PaneParsed = paneRead order s p body in
@@ -45,7 +45,7 @@ bodyLists order Txt1 s p body l = lists (l .quads) (unitsAfter order s p body (l
 bodyLists order Wnd1 s p body l = lists (readQuads order s p body (l .quads)) (l .units) (l .lines) (readFrames order s p body (l .frames))
 bodyLists order Ali1 s p body l = l
 
--- THE BODY CALL of a kind at B, with the lists l lent: 1, 2, 3 of those that the kind takes, and then so
+-- THE BODY CALL of a kind at B, with the lists l lent: 1, 2, 3 of the lists that the kind takes, and then that read
 unfoldable pub bodyParsed : ByteOrder → Kind → List ℕ → ℕ → Lists → BodyRead
 bodyParsed order Pan1 s body l =
     let r : PaneParsed = paneParsed order s body in

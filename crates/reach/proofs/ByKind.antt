@@ -92,24 +92,21 @@ none-owns body n c e x h =
     let p = pos-advanced c 76 in
     rw (x .reads) (record { owns = λ f. (omega (arith, v, p, f), omega (arith, v, p)); level = λ b f. f })
 
+ran-by : {body k end reach lo r n : ℕ} {sought : Bool} {X : Type 0} {q : Place} (f : Answered q end reach)
+    → Went lo r n (λ (c : Cursor). c ≡ start body → Ended body k n sought (f .cursor)) (At (start body)) (f .cursor) X → Ran body k sought end reach lo r n X
+ran-by f x = record { cursor = f .cursor; stop = f .stop; far = f .far; went = x }
+
 base-ran : {body end reach lo r n : ℕ} {X : Type 0} {q : Place} (f : Answered q end reach) → Took lo r n 76 (At (start body)) (f .cursor) X → Ran body 76 false end reach lo r n X
-base-ran {body} {n = n} f x = record {
-  cursor = f .cursor;
-  stop = f .stop;
-  far = f .far;
-  went = told x (λ (c : Cursor). c ≡ start body → Ended body 76 n false (f .cursor)) (λ h.
-      own-ended body 76 n false (x .from) (f .cursor) (f .cursor) (x .how) (none-owns body n (x .from) (f .cursor) (x .how) h) h);
-}
+base-ran {body} {n = n} f x =
+    let d = f .cursor in
+    ran-by f (told x (λ (c : Cursor). c ≡ start body → Ended body 76 n false d)
+    (λ h. own-ended body 76 n false (x .from) d d (x .how) (none-owns body n (x .from) d (x .how) h) h))
 
 own-ran : {body k end reach lo r n : ℕ} {sought : Bool} {X Y : Type 0} {q p : Place} (f : Answered q end reach) (y : Owned lo r n body k sought p (f .cursor) Y)
     → Took lo r n 76 (At (start body)) (y .from) X → Ran body k sought end reach lo r n (X × Y)
-own-ran {body} {k} {n = n} {sought = sought} f y x = record {
-  cursor = f .cursor;
-  stop = f .stop;
-  far = f .far;
-  went = after y x (λ (c : Cursor). c ≡ start body → Ended body k n sought (f .cursor))
-      (λ h. own-ended body k n sought (x .from) (y .from) (f .cursor) (x .how) (y .how) h);
-}
+own-ran {body} {k} {n = n} {sought = sought} f y x =
+    let d = f .cursor in
+    ran-by f (after y x (λ (c : Cursor). c ≡ start body → Ended body k n sought d) (own-ended body k n sought (x .from) (y .from) d (x .how) (y .how)))
 
 -- what it gives
 ran-so : {body k end reach lo r n : ℕ} {sought : Bool} {X Y : Type 0} → Ran body k sought end reach lo r n X → (X → Y) → Ran body k sought end reach lo r n Y

@@ -3,7 +3,7 @@ use mathlib.Core.Path.{_≡_, refl, sym, ap, _∙_}
 use Prim.Native.Nat.{ℕ, _-_, _≤_, _<_}
 use native.Mathlib.Omega.{arith}
 use mathlib.Core.List.{List, _++_}
-use lib.ListN.{length, take, length-take}
+use lib.ListN.{length, take}
 use Rattle.core.specs.Taken.{start}
 use Rattle.core.specs.declared.error.Refusal.{Refusal}
 use Rattle.core.specs.declared.cursor.ByteOrder.{ByteOrder}
@@ -11,7 +11,6 @@ use Rattle.core.specs.declared.cursor.Cursor.{Cursor}
 use Rattle.core.specs.declared.cursor.Place.{Place}
 use Rattle.core.specs.declared.cursor.Place.the-variants.{At, Refused}
 use Rattle.core_checks.specs.Checks.{bodyStart, parsedOf}
-use Rattle.core_checks.specs.declared.checks.Parsed.{Parsed}
 use Rattle.core_checks.specs.declared.checks.Parsed.the-variants as Parseds
 use Rattle.core_checks.proofs.Checked.{BodyOk, body-started, body-passes, list-cleared, list-passes}
 use Rattle.pane_read.specs.Pane.{paneTaken}
@@ -33,7 +32,7 @@ use Rattle.strip_kinds.specs.Body.{bodyRead, bodyLists, bodyParsed, listsParsed
 use Rattle.reach.specs.Agrees.{Agrees}
 use Rattle.reach.specs.Seen.{BodySeen, bodySeen, callSeen}
 use Rattle.reach.specs.Figures.{Bounds, BodyRefused}
-use Rattle.reach.proofs.Needed.{agrees-longer, agrees-take, needed, bounds}
+use Rattle.reach.proofs.Needed.{agrees-longer, cut-of, needed, bounds}
 
 -- ---- where the call of a kind begins: 1, 2, and 3 of the lists that the kind takes
 
@@ -123,18 +122,10 @@ module _ (order : ByteOrder) (k : Kind) (body : ℕ) (l : Lists) where
       bounds order k body l s end reach (ap (λ (v : BodySeen). v .read .answer) (sym x) ∙ e)
 
   -- AND NO LESS: of a buffer that is cut below its reach the call is refused
-  call-cut-by : (s : List ℕ) (end reach n : ℕ) → Accepted s end reach → n < reach → (x : Parsed) → callSeen order k body l (take n s) .read .answer ≡ x → BodyRefused x
-  call-cut-by s end reach n e m (Parseds.Refused why) g = record { why = why; refused = refl }
-  call-cut-by s end reach n e m (Parseds.Read end′ reach′) g =
-      let t = length-take n s in
-      let b = call-bounds (take n s) end′ reach′ g in
-      let v = call-needed (take n s) s end′ reach′ g (agrees-take (body - 8) reach′ n s (omega (arith, b .within, t))) (begun s end reach e .ok .most) in
-      let y : _≡_ {A = Parsed} (Parseds.Read end reach) (Parseds.Read end′ reach′) = sym e ∙ ap (λ (x : BodySeen). x .read .answer) v ∙ g in
-      let z : reach ≡ reach′ = cc in
-      absurd (omega (arith, z, b .within, t))
-
   pub call-cut : (s : List ℕ) (end reach n : ℕ) → Accepted s end reach → n < reach → BodyRefused (callSeen order k body l (take n s) .read .answer)
-  call-cut s end reach n e m = call-cut-by s end reach n e m _ refl
+  call-cut s end reach n e m =
+      cut-of (body - 8) (callSeen order k body l) s n end reach e m (λ end′ reach′ g. call-bounds (take n s) end′ reach′ g .within)
+      (λ end′ reach′ g a. call-needed (take n s) s end′ reach′ g a (begun s end reach e .ok .most))
 
   -- bytes after the buffer change nothing
   pub call-extends : (s more : List ℕ) (end reach : ℕ) → Accepted s end reach → length (s ++ more) ≤ 16777216 → callSeen order k body l (s ++ more) ≡ callSeen order k body l s

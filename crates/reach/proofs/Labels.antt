@@ -1,6 +1,6 @@
 -- A label up to its NUL.
 use mathlib.Core.Path.{_≡_, refl, sym, ap, subst}
-use Prim.Native.Nat.{ℕ, suc, _+_, _≤_, _<_}
+use Prim.Native.Nat.{ℕ, suc, _+_, _<_}
 use native.Mathlib.Omega.{arith}
 use mathlib.Core.Bool.{Bool, true, false, cond}
 use mathlib.Core.List.{List, [], _∷_}
@@ -14,12 +14,11 @@ use Rattle.core.specs.declared.cursor.Place.{Place}
 use Rattle.core.specs.declared.cursor.Place.the-variants.{At, Refused}
 use Rattle.core.specs.declared.error.Refusal.{Refusal}
 use Rattle.core.specs.declared.error.Refusal.the-variants.{NoNul}
-use Rattle.core.proofs.Cursors.{pos-advanced, reach-grows, reach-covers, reach-within}
 use Rattle.text_box_parts.specs.declared.Label.the-variants as label
 use Rattle.text_box_caption.specs.Caption.{labelOf}
 use Rattle.text_box_caption.proofs.Captions.{inside}
 use Rattle.reach.specs.Agrees.{Agrees}
-use Rattle.reach.proofs.Steps.{Some, so, part-same}
+use Rattle.reach.proofs.Steps.{Some, told, so, part-same, took}
 
 -- lists that are the same up to the first NUL of one have the same bytes before it
 upto-step : (t : Bool) (b : ℕ) (x y : List ℕ) → (ih : take (suc (length (upToNul x))) x ≡ take (suc (length (upToNul x))) y → length (upToNul x) < length x → upToNul y ≡ upToNul x)
@@ -50,23 +49,16 @@ module _ (lo r : ℕ) (s s′ : List ℕ) (a : Agrees lo r s s′) where
       let fit : c .pos + k < length s = ltb-true (c .pos + k) (length s) e in
       let i : _≡_ {A = Place} (At (advanced c (k + 1))) (At d) = rw e at h in
       let j : advanced c (k + 1) ≡ d = cc in
-      let far : c .pos + (k + 1) ≤ d .reach = rw j at (reach-covers c (k + 1) (omega arith)) in
-      record {
-        from = c;
-        here = refl;
-        how = tt;
-        grows = rw (← j) (reach-grows c (k + 1));
-        within = λ l. rw (← j) (reach-within c (k + 1) (length s) l (omega arith));
-        low = λ l. rw (← j, pos-advanced c (k + 1)) (omega arith);
-        same = λ l m.
-            let q : take (suc k) (drop (c .pos) s) ≡ take (suc k) (drop (c .pos) s′) = sym (part-same lo r s s′ a (suc k) (c .pos) l (omega (arith, far)) (omega arith)) in
-            let v : upToNul (drop (c .pos) s′) ≡ upToNul (drop (c .pos) s) = upto-same (drop (c .pos) s) (drop (c .pos) s′) q (omega (arith, length-drop (c .pos) s)) in
-            let z : ltb (c .pos + k) (length s′) ≡ true = lt-ltb (c .pos + k) (length s′) (omega (arith, a .long)) in (
-              rw (v, e, z),
-              rw (e, inside s (c .pos) k (omega arith) (omega arith), inside s′ (c .pos) k (omega (arith, a .long)) (omega (arith, a .long)))
-                  (part-same lo r s s′ a k (c .pos) l (omega (arith, far)) (omega arith)),
-            );
-      }
+      let x = took lo r s s′ a (k + 1) c d ((labelTaken s′ (At c) ≡ labelTaken s (At c)) × Stands s s′ (c .pos) (length (labelTaken s (At c) .value))) (omega arith) (omega arith) j (λ l m.
+      let q : take (suc k) (drop (c .pos) s) ≡ take (suc k) (drop (c .pos) s′) = sym (part-same lo r s s′ a (suc k) (c .pos) l (omega arith) (omega arith)) in
+      let v : upToNul (drop (c .pos) s′) ≡ upToNul (drop (c .pos) s) = upto-same (drop (c .pos) s) (drop (c .pos) s′) q (omega (arith, length-drop (c .pos) s)) in
+      let z : ltb (c .pos + k) (length s′) ≡ true = lt-ltb (c .pos + k) (length s′) (omega (arith, a .long)) in
+      let same : labelTaken s′ (At c) ≡ labelTaken s (At c) = rw (v, e, z) in
+      let stands : Stands s s′ (c .pos) (length (labelTaken s (At c) .value)) =
+      rw (e, inside s (c .pos) k (omega arith) (omega arith), inside s′ (c .pos) k (omega (arith, a .long)) (omega (arith, a .long)))
+      (part-same lo r s s′ a k (c .pos) l (omega arith) (omega arith)) in
+      (same, stands)) in
+      told x (λ (b : Cursor). Unit {0}) tt
   label-at c d false e h =
       let i : _≡_ {A = Place} (Refused (NoNul (c .pos))) (At d) = rw e at h in
       let z : _≡_ {A = ℕ} 0 1 = cc in absurd (omega arith)

@@ -28,6 +28,23 @@ agrees-longer lo r s more h = record { long = rw length-append (omega arith); sa
 pub agrees-take : (lo r n : ℕ) (s : List ℕ) → r ≤ n → Agrees lo r (take n s) s
 agrees-take lo r n s h = record { long = rw length-take (omega arith); same = λ i l m. getD-take n s i 0 (omega arith) }
 
+-- what is cut below its reach is refused: were it read, it would be read so of the whole, with a reach within what is left
+module _ (lo : ℕ) (seen : List ℕ → BodySeen) (s : List ℕ) (n end reach : ℕ) (e : seen s .read .answer ≡ Parseds.Read end reach) (m : n < reach)
+    (within : (end′ reach′ : ℕ) → seen (take n s) .read .answer ≡ Parseds.Read end′ reach′ → reach′ ≤ length (take n s))
+    (same : (end′ reach′ : ℕ) → seen (take n s) .read .answer ≡ Parseds.Read end′ reach′ → Agrees lo reach′ (take n s) s → seen s ≡ seen (take n s)) where
+  cut-by : (x : Parsed) → seen (take n s) .read .answer ≡ x → BodyRefused x
+  cut-by (Parseds.Refused why) g = record { why = why; refused = refl }
+  cut-by (Parseds.Read end′ reach′) g =
+      let t = length-take n s in
+      let w = within end′ reach′ g in
+      let v = same end′ reach′ g (agrees-take lo reach′ n s (omega (arith, w, t))) in
+      let y : _≡_ {A = Parsed} (Parseds.Read end reach) (Parseds.Read end′ reach′) = sym e ∙ ap (λ (x : BodySeen). x .read .answer) v ∙ g in
+      let z : reach ≡ reach′ = cc in
+      absurd (omega (arith, z, w, t))
+
+  pub cut-of : BodyRefused (seen (take n s) .read .answer)
+  cut-of = cut-by _ refl
+
 module _ (order : ByteOrder) (k : Kind) (body : ℕ) (l : Lists) where
   abbrev Accepted : List ℕ → ℕ → ℕ → Type 0
   Accepted s end reach = bodySeen order k body l s .read .answer ≡ Parseds.Read end reach
@@ -54,18 +71,9 @@ module _ (order : ByteOrder) (k : Kind) (body : ℕ) (l : Lists) where
       }
 
   -- AND NO LESS: of a buffer that is cut below its reach the read is refused
-  cut-by : (s : List ℕ) (end reach n : ℕ) → Accepted s end reach → n < reach → (x : Parsed) → bodySeen order k body l (take n s) .read .answer ≡ x → BodyRefused x
-  cut-by s end reach n e m (Parseds.Refused why) g = record { why = why; refused = refl }
-  cut-by s end reach n e m (Parseds.Read end′ reach′) g =
-      let t = length-take n s in
-      let b = bounds (take n s) end′ reach′ g in
-      let v = needed (take n s) s end′ reach′ g (agrees-take (body - 8) reach′ n s (omega (arith, b .within, t))) in
-      let y : _≡_ {A = Parsed} (Parseds.Read end reach) (Parseds.Read end′ reach′) = sym e ∙ ap (λ (x : BodySeen). x .read .answer) v ∙ g in
-      let z : reach ≡ reach′ = cc in
-      absurd (omega (arith, z, b .within, t))
-
   pub cut : (s : List ℕ) (end reach n : ℕ) → Accepted s end reach → n < reach → BodyRefused (bodySeen order k body l (take n s) .read .answer)
-  cut s end reach n e m = cut-by s end reach n e m _ refl
+  cut s end reach n e m =
+      cut-of (body - 8) (bodySeen order k body l) s n end reach e m (λ end′ reach′ g. bounds (take n s) end′ reach′ g .within) (λ end′ reach′ g a. needed (take n s) s end′ reach′ g a)
 
   -- so bytes after the buffer change nothing
   pub read-extends : (s more : List ℕ) (end reach : ℕ) → Accepted s end reach → bodySeen order k body l (s ++ more) ≡ bodySeen order k body l s

@@ -144,6 +144,20 @@ module _ (lo r : ℕ) (s s′ : List ℕ) (a : Agrees lo r s s′) where
       let h′ : at < length s′ = omega (arith, a .long) in
       rw (drop-cons s at 0 h, drop-cons s′ at 0 h′, a .same at l (omega arith)) (ap (λ (t : List ℕ). getD s′ at 0 ∷ t) (part-same w (suc at) (omega arith) (omega arith) (omega arith)))
 
+  -- w bytes read at c, within s: what follows of the bytes that are the same
+  pub took : (w : ℕ) (c d : Cursor) (Same : Type 0) → 0 < w → c .pos + w ≤ length s → advanced c w ≡ d → (lo ≤ c .pos → c .pos + w ≤ r → Same) → Took lo r (length s) w (At c) d Same
+  took w c d Same n fit j f =
+      let far = rw j at (reach-covers c w n) in
+      record {
+        from = c;
+        here = refl;
+        how = record { reads = sym j; room = λ h. fit };
+        grows = rw (← j) (reach-grows c w);
+        within = λ l. rw (← j) (reach-within c w (length s) l fit);
+        low = λ l. rw (← j, pos-advanced c w) (omega arith);
+        same = λ l m. f l (omega (arith, far));
+      }
+
   -- ---- a number
 
   number-went-by : (order : ByteOrder) (w : ℕ) → 0 < w → (c d : Cursor) (b : Bool) → leb (c .pos + w) (length s) ≡ b → numberTaken order w s (At c) .then ≡ At d
@@ -155,16 +169,7 @@ module _ (lo r : ℕ) (s s′ : List ℕ) (a : Agrees lo r s s′) where
       let v = number-here order w s c fit in
       let k : _≡_ {A = Place} (At (advanced c w)) (At d) = sym (ap (λ t. t .then) v) ∙ h in
       let j : advanced c w ≡ d = cc in
-      let far = rw j at (reach-covers c w n) in
-      record {
-        from = c;
-        here = refl;
-        how = record { reads = sym j; room = λ h. fit };
-        grows = rw (← j) (reach-grows c w);
-        within = λ l. rw (← j) (reach-within c w (length s) l fit);
-        low = λ l. rw (← j, pos-advanced c w) (omega arith);
-        same = λ l m. number-here order w s′ c fit′ ∙ rw (part-same w (c .pos) l (omega (arith, far)) fit) (sym v);
-      }
+      took w c d _ n fit j (λ l m. number-here order w s′ c fit′ ∙ rw (part-same w (c .pos) l m fit) (sym v))
   number-went-by order w n c d false e h =
       let z : _≡_ {A = ℕ} 0 1 = cc (short order w s (At c) c refl (leb-false (c .pos + w) (length s) e)) in absurd (omega arith)
 
@@ -200,16 +205,7 @@ module _ (lo r : ℕ) (s s′ : List ℕ) (a : Agrees lo r s s′) where
       let v = string-here w s c n fit in
       let j′ : _≡_ {A = Place} (At (advanced c w)) (At d) = sym (ap (λ t. t .then) v) ∙ h in
       let j : advanced c w ≡ d = cc in
-      let far = rw j at (reach-covers c w n) in
-      record {
-        from = c;
-        here = refl;
-        how = record { reads = sym j; room = λ h. fit };
-        grows = rw (← j) (reach-grows c w);
-        within = λ l. rw (← j) (reach-within c w (length s) l fit);
-        low = λ l. rw (← j, pos-advanced c w) (omega arith);
-        same = λ l m. string-here w s′ c n fit′ ∙ rw (part-same w (c .pos) l (omega (arith, far)) fit) (sym v);
-      }
+      took w c d _ n fit j (λ l m. string-here w s′ c n fit′ ∙ rw (part-same w (c .pos) l m fit) (sym v))
   string-by w n c d false e h k = let z : _≡_ {A = ℕ} 0 1 = cc (string-none w c (ltb-false (c .pos) (length s) e)) in absurd (omega arith)
 
   string-refused : (w : ℕ) (why : Refusal) → stringTaken w s (Refused why) .then ≡ Refused why

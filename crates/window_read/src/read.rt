@@ -64,14 +64,14 @@ fn take_frame(order: ByteOrder, data: &[u8], p: Place) -> FrameTaken
     let flip = cursor::take_u8(order, data, p1);
     let p2 = flip.then;
     let reserve = cursor::take_u8(order, data, p2);
-    let p3 = reserve.then;
+    let then = reserve.then;
     let texture_flip_mode = TextureFlip::decode(flip.value);
     FrameTaken {
         value: WindowFrame {
             material_index: material.value,
             texture_flip_mode,
         },
-        then: p3,
+        then,
     }
 }
 

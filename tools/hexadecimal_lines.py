@@ -2,10 +2,14 @@
 """Writes crates/hexadecimal/stdin and stdout: lines for the hexadecimal program and what it must print.
 
 Run in the repository's root. The answers come from `answer` below, a reading of document 01 that shares nothing with the Rattle code.
+The last lines are those of docs/REFUSALS.md, each with the answer that the page states before it; `answer` must agree with the page.
+With --check nothing is written: it tells whether the stored files are those that would be, and exits with 1 if not.
 KINDS names the kinds that the strip has; letters of others are passed.
 """
 import random
+import re
 import struct
+import sys
 from pathlib import Path
 
 KINDS = ["pan1", "pic1", "txt1", "wnd1", "ali1"]
@@ -239,13 +243,34 @@ def lines():
         yield (line.hex() if rng.random() < 0.5 else line.hex().upper()).encode()
 
 
+def of_page(text):
+    """The lines of hexadecimal in docs/REFUSALS.md, each with the answer that ends the paragraph before it: `no 4 0 4`:"""
+    found = re.findall(r"`((?:no|pane|pass|end)[0-9 ]*)`:\n\n {4,6}([0-9A-F]+)\n", text)
+    indented = re.findall(r"^ {4,}(.*)$", text, re.M)
+    if not found or [line for _, line in found] != indented:
+        sys.exit("docs/REFUSALS.md: an indented line is no line of hexadecimal, or has no answer right before it")
+    for stated, line in found:
+        if answer(line.encode()) != stated:
+            sys.exit(f"docs/REFUSALS.md states {stated} where document 01 has {answer(line.encode())}: {line}")
+    return found
+
+
 def main():
     crate = Path("crates/hexadecimal")
     every = list(lines())
-    crate.joinpath("stdin").write_bytes(b"\n".join(every))
-    crate.joinpath("stdout").write_text("".join(answer(line) + "\n" for line in every))
-    print(len(every), "lines")
+    page = of_page(Path("docs/REFUSALS.md").read_text())
+    given = b"\n".join(every + [line.encode() for _, line in page])
+    asked = "".join(said + "\n" for said in [answer(line) for line in every] + [stated for stated, _ in page])
+    stored = {crate / "stdin": given, crate / "stdout": asked.encode()}
+    if "--check" in sys.argv[1:]:
+        others = [str(path) for path, text in stored.items() if path.read_bytes() != text]
+        print(", ".join(others) + " differ: run tools/hexadecimal_lines.py" if others else "the stored lines are those of this tool and of docs/REFUSALS.md")
+        return 1 if others else 0
+    for path, text in stored.items():
+        path.write_bytes(text)
+    print(len(every) + len(page), "lines,", len(page), "of them those of docs/REFUSALS.md")
+    return 0
 
 
 if __name__ == "__main__":
-    main()
+    sys.exit(main())

@@ -1,9 +1,11 @@
 #!/usr/bin/env python3
-"""Writes crates/page/stdin and stdout: a stored page of 40 panes of all five kinds, with sections of other letters between them, and the lines that the program must print.
+"""Writes crates/page/stdin and stdout: a stored page of 40 panes of all five kinds, with sections of other letters between them, and the lines that the program must print;
+then panes and sections whose names and letters would make lines of their own, were they printed as they are.
 
 Run in the repository's root. The page is laid out here by document 01, and the lines follow from what was laid out: nothing is shared with the Rattle code.
 """
 import random
+import re
 import struct
 from pathlib import Path
 
@@ -83,13 +85,34 @@ def sections():
         if rng.random() < 0.3:
             letters = rng.choice(["pas1", "pae1", "usd1", "grp1"])
             yield letters, None, rng.randbytes(rng.choice([0, 4, 32]))
+    for name in FORGED:
+        yield "pan1", name, pan1(rng, name)
+    for letters in ODD:
+        yield letters, None, b""
+
+
+# names of at most 24 bytes: a line feed and a quote, a backslash at the end, all controls of ASCII but NUL, U+0080 to U+009F, line ends beyond ASCII, and letters that stay as they are
+FORGED = ['x" at 0, 84 bytes\n', "\n", '"', "\\", 'a\\" at 0, 84 bytes\nend at 84'[:24], "".join(map(chr, range(1, 25))), "".join(map(chr, range(25, 32))) + "\x7f\x1b[2J",
+          "\x7f" * 24, "\x80\x85\x9b\x9f\xa0", "a\u2028b\u2029c\u2027\u2030", "\u2028" * 8, "é€😀設定"]
+# letters of no kind, each a byte
+ODD = ["\n\n\n\n", '"\\"\\', "\x00\x1f\x20\x7e", "\x7f\x80\xc2\x85", "\xff\xfe\xfd\xe2", "PAN1"]
+
+
+def shown(text, ascii):
+    """The text between quotes: \\" and \\\\, and \\xHH for each byte of a character that is a control or ends a line, or with ascii is beyond ASCII."""
+    def one(found):
+        char = found.group()
+        if char in '"\\':
+            return "\\" + char
+        return "".join("\\x%02X" % byte for byte in char.encode("latin-1" if ascii else "utf-8"))
+    return re.sub('["\\\\\0-\x1f\x7f-\x9f\u2028\u2029' + ("\x80-\xff]" if ascii else "]"), one, text)
 
 
 def main():
     page, lines = b"", []
     for letters, name, body in sections():
-        whole = put(letters.encode(), body)
-        what = 'pass "%s"' % letters if name is None else '%s "%s"' % (letters, name)
+        whole = put(letters.encode("latin-1"), body)
+        what = 'pass "%s"' % shown(letters, True) if name is None else '%s "%s"' % (letters, shown(name, False))
         lines.append("%s at %d, %d bytes" % (what, len(page), len(whole)))
         page += whole
     lines.append("end at %d" % len(page))

@@ -1,6 +1,7 @@
 #!/usr/bin/env python3
 """Checks that the sentences of the refusals are the same in docs/REFUSALS.md, in the Rust crate (bindings/rust/src/refusal.rs) and, for those
-that a page can give, in the program page (crates/page/src/main.rt). Prints what differs, and exits with 1 if anything does."""
+that a page can give, in the definitions of the program page's lines (crates/page_lines/specs/PageLine.antt), with the same figures at the same places there.
+Prints what differs, and exits with 1 if anything does."""
 import pathlib
 import re
 import sys
@@ -17,7 +18,7 @@ def bare(sentence):
 
 def of_docs():
     rows = re.findall(r"^\| (\d+) \| ([^|]*) \|", (TOP / "docs/REFUSALS.md").read_text(), re.M)
-    return {NAMES[int(number) - 1]: bare(sentence) for number, sentence in rows}
+    return {NAMES[int(number) - 1]: sentence for number, sentence in rows}
 
 
 def of_rust():
@@ -28,31 +29,28 @@ def of_rust():
 
 
 def of_page():
-    text = (TOP / "crates/page/src/main.rt").read_text()
-    text = text[text.index("fn print_read_sentence"):]
-    text = text[:text.index("\n}\n")]
+    """By number: the definitions that `sentence` picks, `ascii ".."` for text, `decimal a` and `stringText b` for figures."""
+    text = (TOP / "crates/page_lines/specs/PageLine.antt").read_text()
     found = {}
-    for name, arm in re.findall(r"Refusal::(\w+) \{[^=]*=>(.*?)(?=Refusal::|_ =>)", text, re.S):
-        found[name] = page_sentence(arm)
+    for number, name in re.findall(r"eqb number (\d+)\) \((\w+)", text):
+        parts = re.search(rf"^{name} [ab ]*= (.*)$", text, re.M).group(1)
+        found[NAMES[int(number) - 1]] = "".join(words or "{%s}" % figure for words, figure in re.findall(r'ascii "([^"]*)"|\w+ ([ab])\b', parts))
     return found
 
 
-def page_sentence(arm):
-    """print(b".."), print_string(n) and print_with(b"..", n, b"..", ..) in their order, a figure for each argument that is no text."""
-    sentence = ""
-    for call, inside in re.findall(r"(print\w*)\(((?:[^()\"]|\"[^\"]*\")*)\)", arm):
-        for text, figure in re.findall(r"b\"([^\"]*)\"|([a-z_]+)", inside):
-            sentence += "{}" if figure else text
-    return sentence
+def with_figures(sentence):
+    """The page's sentence as docs/REFUSALS.md writes it: the string that figure b names is {string} there."""
+    return sentence.replace("the {b} at", "the {string} at")
 
 
 def main():
-    docs, rust, page = of_docs(), of_rust(), of_page()
+    named, rust, page = of_docs(), of_rust(), of_page()
+    docs = {name: bare(sentence) for name, sentence in named.items()}
     faults = [name for name in NAMES if docs.get(name) != rust.get(name)]
-    faults += [name for name in page if docs.get(name) != page[name]]
+    faults += [name for name in page if named.get(name) != with_figures(page[name])]
     faults += [name for name in NAMES[3:8] if name not in page]
     for name in faults:
-        print(name, repr(docs.get(name)), repr(rust.get(name)), repr(page.get(name)), sep="\n    ")
+        print(name, repr(named.get(name)), repr(rust.get(name)), repr(page.get(name)), sep="\n    ")
     print(f"{len(docs)} sentences of docs/REFUSALS.md, {len(rust)} of the Rust crate, {len(page)} of page, {len(faults)} differences")
     return 1 if faults or len(docs) != len(NAMES) else 0
 

@@ -3,12 +3,13 @@
  *
  * A slice crosses as a pointer and a count of elements. The pointer is never NULL and is aligned for its element, also where the count is 0. Slices
  * that are written (without const) overlap no other. A call asks for nothing more: any numbers are answered, and nothing outside the slices is
- * touched. Each call returns one of the numbers END to BAD_ORDER below and, but for SHORT_ANSWER, puts ANSWER_WORDS words into `answer`; the comment of the
- * number says what they are. A record is RECORD_WORDS words. A refused call changes nothing but `answer`.
+ * touched. Each call returns one of the numbers END to FILLED below and, but for SHORT_ANSWER, puts ANSWER_WORDS words into `answer` (bidlomeqa_filled puts
+ * its words into `filled`); the comment of the number says what they are. A record is RECORD_WORDS words. A refused call changes nothing but `answer` (or `filled`).
  *
  * A read lends four lists: quads (8 floats a quad), units (UTF-16), lines (offset and width a line, 2 floats) and frames (material and flip a frame),
  * of at least QUADS_NEED, UNITS_NEED, LINES_NEED and FRAMES_NEED numbers. Floats cross as their 32 bits. A write takes its counts from the lengths
- * of the lists, and looks only at those that its kind has.
+ * of the lists, and looks only at those that its kind has. So the lists of a read are not handed to a write at their full length: bidlomeqa_filled tells
+ * how many numbers of each the read filled.
  */
 #ifndef BIDLOMEQA_H
 #define BIDLOMEQA_H
@@ -22,7 +23,8 @@ extern "C" {
 
 /* ---- made from layout.rt by tools/c_header.py */
 /* The flat layout of a record, its answers, and nothing else: this file is the one place that defines them. The Rust crate includes it as it stands, */
-/* and the C header is made from it. A record is RECORD_WORDS words of 64 bits, one a field; what a word stays below is said beside it. */
+/* and the C header is made from it. A record is RECORD_WORDS words of 64 bits, one a field; what a word stays below is said beside it. Words that a write */
+/* does not look at may be any number. */
 
 /* ---- the base, in every record */
 
@@ -79,7 +81,7 @@ extern "C" {
 /* below 2^16 */
 #define BIDLOMEQA_PICTURE_MATERIAL 78
 
-/* the count of a read, below 256; a write takes it from the lent list */
+/* the count of a read, below 256; a write does not look at it, and takes its count from the lent list */
 #define BIDLOMEQA_PICTURE_QUADS 79
 
 /* 0 or 1 */
@@ -153,16 +155,16 @@ extern "C" {
 /* 0 or 1 */
 #define BIDLOMEQA_LABEL_PRESENT 111
 
-/* where the label stands in the strip that was read; 0 where it is absent */
+/* where the label stands in the strip that was read; 0 where it is absent; a write does not look at it */
 #define BIDLOMEQA_LABEL_PLACE 112
 
-/* how many bytes it has without its NUL; 0 where it is absent */
+/* how many bytes it has without its NUL; 0 where it is absent; a write does not look at it */
 #define BIDLOMEQA_LABEL_LENGTH 113
 
 /* 0 or 1 */
 #define BIDLOMEQA_LINES_PRESENT 114
 
-/* the count of a read, below 256; a write takes it from the lent list; 0 where the table is absent */
+/* the count of a read, below 256, and 0 where the table is absent; a write does not look at it, and takes its count from the lent list */
 #define BIDLOMEQA_LINES_COUNT 115
 
 /* ---- wnd1 */
@@ -182,7 +184,7 @@ extern "C" {
 /* 0 or 1 */
 #define BIDLOMEQA_NOT_DRAW_CONTENT 73
 
-/* the count of a read, below 256; a write takes it from the lent list */
+/* the count of a read, below 256; a write does not look at it, and takes its count from the lent list */
 #define BIDLOMEQA_FRAMES_COUNT 74
 
 /* four corners of r, g, b, a */
@@ -191,7 +193,7 @@ extern "C" {
 /* below 2^16 */
 #define BIDLOMEQA_CONTENT_MATERIAL 91
 
-/* the count of a read, below 256; a write takes it from the lent list */
+/* the count of a read, below 256; a write does not look at it, and takes its count from the lent list */
 #define BIDLOMEQA_CONTENT_QUADS 92
 
 /* ---- ali1 */
@@ -243,7 +245,7 @@ extern "C" {
 /* A word of the record is not below its bound: the index of the first such word, 0, 0. Nothing was read or written. */
 #define BIDLOMEQA_BAD_WORD 6u
 
-/* The answer's words are fewer than ANSWER_WORDS. Nothing was read or written. */
+/* The answer's words are fewer than ANSWER_WORDS, or those for the counts fewer than FILLED_WORDS. Nothing was read or written. */
 #define BIDLOMEQA_SHORT_ANSWER 7u
 
 /* A label, or a caption from the strip: 0, its place, its length. A caption from the lent one: 1, 0, its length. */
@@ -252,8 +254,14 @@ extern "C" {
 /* The byte order is neither LITTLE nor BIG: its number, 0, 0. Nothing was read or written. */
 #define BIDLOMEQA_BAD_ORDER 9u
 
+/* How many numbers of the quads, the units, the lines and the frames a record counts: four words. */
+#define BIDLOMEQA_FILLED 10u
+
 /* How many words an answer has. */
 #define BIDLOMEQA_ANSWER_WORDS 3
+
+/* How many words the counts of the four lists have. */
+#define BIDLOMEQA_FILLED_WORDS 4
 /* ---- end of what is made */
 
 /* how long the lists of a section read are at least */
@@ -320,6 +328,14 @@ uint64_t bidlomeqa_label(
 uint64_t bidlomeqa_caption(
     const uint8_t *strip, size_t strip_length, const uint64_t *record, size_t record_length,
     const uint8_t *lent, size_t lent_length, uint64_t *answer, size_t answer_length);
+
+/*
+ * How many numbers of each list the record counts: FILLED, SHORT_RECORD, BAD_WORD (of a word that counts: the kind, a count, TEXT_LENGTH, TEXT_PRESENT,
+ * LINES_PRESENT) or SHORT_ANSWER (`filled` has fewer than FILLED_WORDS words). With FILLED the words of `filled` are the numbers of quads, units, lines
+ * and frames: the read of the record filled the first so many of each list. Hand lists of these lengths to a write. They are never above QUADS_NEED,
+ * UNITS_NEED, LINES_NEED and FRAMES_NEED. With SHORT_RECORD and BAD_WORD the first ANSWER_WORDS words of `filled` are those of the answer.
+ */
+uint64_t bidlomeqa_filled(const uint64_t *record, size_t record_length, uint64_t *filled, size_t filled_length);
 
 #ifdef __cplusplus
 }

@@ -1,6 +1,6 @@
 /*
- * Reads a strip of one alignment pane, moves the pane and writes it back over itself. From the top of the repository, once
- * `rt staticlib exports` has made the library:
+ * Reads a strip of one alignment pane, moves the pane and writes it back over itself, with as many numbers of each list as the read filled. From the
+ * top of the repository, once `rt staticlib exports` has made the library:
  *   cc -Wall -Werror bindings/c/example.c -L target/staticlib -lexports -o target/example && target/example
  */
 #include "bidlomeqa.h"
@@ -14,6 +14,7 @@ static uint32_t lines[BIDLOMEQA_LINES_NEED];
 static uint16_t frames[BIDLOMEQA_FRAMES_NEED];
 static uint64_t record[BIDLOMEQA_RECORD_WORDS];
 static uint64_t answer[BIDLOMEQA_ANSWER_WORDS];
+static uint64_t filled[BIDLOMEQA_FILLED_WORDS];
 static const uint8_t no_label[1];
 
 static uint64_t read_section(const uint8_t *strip, size_t length, size_t place)
@@ -34,10 +35,14 @@ int main(void)
     if (code != BIDLOMEQA_PANE || record[BIDLOMEQA_KIND] != 4)
         return 1;
 
+    code = bidlomeqa_filled(record, BIDLOMEQA_RECORD_WORDS, filled, BIDLOMEQA_FILLED_WORDS);
+    if (code != BIDLOMEQA_FILLED)
+        return 1;
+
     record[BIDLOMEQA_TRANSLATION] = 0x3F800000; /* x = 1.0 */
     code = bidlomeqa_write_section(
-        BIDLOMEQA_LITTLE, record, BIDLOMEQA_RECORD_WORDS, quads, 0, units, 0, lines, 0, frames, 0, no_label, 0, strip, sizeof strip, 0,
-        answer, BIDLOMEQA_ANSWER_WORDS);
+        BIDLOMEQA_LITTLE, record, BIDLOMEQA_RECORD_WORDS, quads, filled[0], units, filled[1], lines, filled[2], frames, filled[3],
+        no_label, 0, strip, sizeof strip, 0, answer, BIDLOMEQA_ANSWER_WORDS);
     printf("written: %d, ends at %d\n", (int)code, (int)answer[0]);
     if (code != BIDLOMEQA_WRITTEN || strip[8 + 36 + 3] != 0x3F)
         return 1;

@@ -161,7 +161,7 @@ pub fn read_section(data: &[u8], place: usize, lengths: [usize; 4], to: &mut Who
     }
 }
 
-/// What a word of the record stays below, as the layout says beside it; none where it may be any number or is no word of the kind.
+/// What a word of the record stays below, as the layout says beside it; none where it may be any number (a count, which no write reads) or is no word of the kind.
 pub fn bound(kind: u64, word: usize) -> Option<u64> {
     let float = Some(1 << 32);
     match (kind, word) {
@@ -171,7 +171,7 @@ pub fn bound(kind: u64, word: usize) -> Option<u64> {
         (_, NAME_COUNT | USER_COUNT) => None,
         (_, ALPHA | RESERVE0 | NAME..TRANSLATION) => Some(256),
         (_, TRANSLATION..OWN) => float,
-        (PIC1, PICTURE_COLORS..PICTURE_MATERIAL | PICTURE_QUADS) => Some(256),
+        (PIC1, PICTURE_COLORS..PICTURE_MATERIAL) => Some(256),
         (PIC1, PICTURE_MATERIAL) => Some(1 << 16),
         (PIC1, SHAPE_PRESENT) => Some(2),
         (PIC1, SHAPE_INDEX) => float,
@@ -180,11 +180,11 @@ pub fn bound(kind: u64, word: usize) -> Option<u64> {
         (TXT1, TEXT_ALIGNMENT) => Some(4),
         (TXT1, TEXT_FLAGS..MEASURE | TEXT_PRESENT | LABEL_PRESENT | LINES_PRESENT) => Some(2),
         (TXT1, MEASURE..FONT_TOP_COLOR | CHARACTER_SPACE..SHADOW_TOP_COLOR | SHADOW_ITALIC_TILT) => float,
-        (TXT1, FONT_TOP_COLOR..CHARACTER_SPACE | SHADOW_TOP_COLOR..SHADOW_ITALIC_TILT | LINES_COUNT) => Some(256),
+        (TXT1, FONT_TOP_COLOR..CHARACTER_SPACE | SHADOW_TOP_COLOR..SHADOW_ITALIC_TILT) => Some(256),
         (WND1, INFLATION..WINDOW_FLAGS | CONTENT_MATERIAL) => Some(1 << 16),
         (WND1, WINDOW_FLAGS..WINDOW_KIND | NOT_DRAW_CONTENT) => Some(2),
         (WND1, WINDOW_KIND) => Some(3),
-        (WND1, FRAMES_COUNT..CONTENT_MATERIAL | CONTENT_QUADS) => Some(256),
+        (WND1, CONTENT_COLORS..CONTENT_MATERIAL) => Some(256),
         (ALI1, DIRECTION | DEFAULT_MARGIN) => float,
         (ALI1, IS_ALIGN_LAST_PANE | IS_VERTICAL_ALIGNMENT) => Some(2),
         _ => None,

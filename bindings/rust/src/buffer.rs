@@ -1,5 +1,5 @@
 //! What the calls lend to the library, kept from call to call.
-use crate::calls::{self, Answer, ReadLists, WriteLists};
+use crate::calls::{self, Answer, Filled, ReadLists, WriteLists};
 use crate::layout::*;
 use crate::record::*;
 use crate::refusal::Refusal;
@@ -75,13 +75,13 @@ impl Default for Buffer {
     }
 }
 
-fn disagree(code: u64, answer: Answer) -> ! {
+fn disagree(code: u64, answer: &[u64]) -> ! {
     panic!("the static library answered {code} {answer:?}: it and this crate disagree about the layout")
 }
 
 fn refusal(answer: Answer) -> Refusal {
     let [number, a, b] = answer;
-    Refusal::of(number, a, b).unwrap_or_else(|| disagree(REFUSED, answer))
+    Refusal::of(number, a, b).unwrap_or_else(|| disagree(REFUSED, &answer))
 }
 
 impl Buffer {
@@ -97,8 +97,23 @@ impl Buffer {
         }
     }
 
+    // The pane that was read, with as many numbers of each list as the library says that the read filled.
     fn view<'a>(&'a self, strip: &'a [u8], reach: usize) -> View<'a> {
-        View { words: &self.words, quads: &self.quads, units: &self.units, lines: &self.lines, frames: &self.frames, strip, reach }
+        let mut filled = Filled::default();
+        let code = calls::filled(&self.words, &mut filled);
+        if code != FILLED {
+            disagree(code, &filled);
+        }
+        let [quads, units, lines, frames] = filled.map(|numbers| numbers as usize);
+        View {
+            words: &self.words,
+            quads: &self.quads[..quads],
+            units: &self.units[..units],
+            lines: &self.lines[..lines],
+            frames: &self.frames[..frames],
+            strip,
+            reach,
+        }
     }
 
     /// Reads the section at `place` of the strip, whose numbers stand in the byte order.
@@ -113,7 +128,7 @@ impl Buffer {
                 Ok(Section::Pane { view: self.view(strip, reach), end, next, reach })
             }
             REFUSED => Err(refusal(answer)),
-            code => disagree(code, answer),
+            code => disagree(code, &answer),
         }
     }
 
@@ -127,7 +142,7 @@ impl Buffer {
                 Ok(Body { view: self.view(data, reach), end, reach })
             }
             REFUSED => Err(refusal(answer)),
-            code => disagree(code, answer),
+            code => disagree(code, &answer),
         }
     }
 
@@ -213,7 +228,7 @@ fn written(code: u64, answer: Answer) -> Result<usize, Refusal> {
     match code {
         WRITTEN => Ok(answer[0] as usize),
         REFUSED => Err(refusal(answer)),
-        code => disagree(code, answer),
+        code => disagree(code, &answer),
     }
 }
 
@@ -236,7 +251,7 @@ impl View<'_> {
         match (code, which) {
             (PART, 0) => Caption::Strip(&strip[place as usize..][..length as usize]),
             (PART, 1) => Caption::Lent(&lent[..length as usize]),
-            _ => disagree(code, answer),
+            _ => disagree(code, &answer),
         }
     }
 }

@@ -1,10 +1,13 @@
 //! The calls of the static library over slices, as `layout` describes them; `order` is `LITTLE` or `BIG`. All that is unsafe stands here.
 #![allow(unsafe_code)]
 
-use crate::layout::ANSWER_WORDS;
+use crate::layout::{ANSWER_WORDS, FILLED_WORDS};
 
 /// The three words of an answer.
 pub type Answer = [u64; ANSWER_WORDS];
+
+/// How many numbers of the quads, the units, the lines and the frames a record counts.
+pub type Filled = [u64; FILLED_WORDS];
 
 /// The lists that a read fills.
 pub struct ReadLists<'a> {
@@ -61,6 +64,7 @@ extern "C" {
         strip: *const u8, strip_length: usize, record: *const u64, record_length: usize,
         lent: *const u8, lent_length: usize, answer: *mut u64, answer_length: usize,
     ) -> u64;
+    fn bidlomeqa_filled(record: *const u64, record_length: usize, filled: *mut u64, filled_length: usize) -> u64;
 }
 
 /// Reads the section at `place`.
@@ -137,4 +141,10 @@ pub fn caption(strip: &[u8], record: &[u64], lent: &[u8], answer: &mut [u64]) ->
     unsafe {
         bidlomeqa_caption(strip.as_ptr(), strip.len(), record.as_ptr(), record.len(), lent.as_ptr(), lent.len(), answer.as_mut_ptr(), answer.len())
     }
+}
+
+/// How many numbers of each list the record counts: a read of it filled the first so many, and a write of it is to be handed so many.
+pub fn filled(record: &[u64], filled: &mut [u64]) -> u64 {
+    // SAFETY: each pointer and length is a slice's own, and the library stays within them.
+    unsafe { bidlomeqa_filled(record.as_ptr(), record.len(), filled.as_mut_ptr(), filled.len()) }
 }

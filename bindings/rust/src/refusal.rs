@@ -90,7 +90,7 @@ impl fmt::Display for Refusal {
                 write!(f, "{place} is no place for this call: a section begins at a multiple of 4, a body at 8 or later, neither beyond the buffer")
             }
             Self::ShortList { list: n, need } => write!(f, "the lent list of {} is too short: it needs {need} numbers", list(n)),
-            Self::UnexpectedEof { offset, requested } => write!(f, "the bytes run out: {requested} more are needed at {offset}"),
+            Self::UnexpectedEof { offset, requested } => write!(f, "the bytes run out: {requested} asked for at {offset}"),
             Self::NoNul { place } => write!(f, "the label at {place} meets no NUL before the end of the buffer"),
             Self::PerCharacter { value } => write!(f, "the text box has a per-character transform at offset {value}, which is not read"),
             Self::IllFormedUtf8 { place, which } => write!(f, "the {} at {place} is ill-formed UTF-8", string(which)),

@@ -44,19 +44,14 @@ impl<'a> View<'a> {
         Pane::take(&self.words[PANE_FLAGS..])
     }
 
-    fn count(&self, pairs: &[(Kind, usize)]) -> usize {
-        let kind = self.kind();
-        pairs.iter().find(|(k, _)| *k == kind).map_or(0, |(_, word)| self.words[*word] as usize)
-    }
-
     /// The bits of the quads' floats, eight a quad; none where the kind has no quads.
     pub fn quads(&self) -> &'a [u32] {
-        &self.quads[..8 * self.count(&[(Kind::Pic1, PICTURE_QUADS), (Kind::Wnd1, CONTENT_QUADS)])]
+        self.quads
     }
 
     /// Material and flip of each frame; none where the kind has no frames.
     pub fn frames(&self) -> &'a [u16] {
-        &self.frames[..2 * self.count(&[(Kind::Wnd1, FRAMES_COUNT)])]
+        self.frames
     }
 
     fn present(&self, word: usize) -> bool {
@@ -65,12 +60,12 @@ impl<'a> View<'a> {
 
     /// The units of a text box's text.
     pub fn text(&self) -> Option<&'a [u16]> {
-        self.present(TEXT_PRESENT).then(|| &self.units[..self.words[TEXT_LENGTH] as usize / 2])
+        self.present(TEXT_PRESENT).then_some(self.units)
     }
 
     /// The bits of offset and width of each line of a text box's table.
     pub fn lines(&self) -> Option<&'a [u32]> {
-        self.present(LINES_PRESENT).then(|| &self.lines[..2 * self.words[LINES_COUNT] as usize])
+        self.present(LINES_PRESENT).then_some(self.lines)
     }
 
     /// A text box's label: a part of the strip, in well-formed UTF-8.

@@ -37,7 +37,7 @@ fn reads_that_are_refused() {
         (2, 7, 0),
         "7 is no place for this call: a section begins at a multiple of 4, a body at 8 or later, neither beyond the buffer",
     );
-    says(read(Kind::Pan1, &[0; 12], 8), (4, 12, 24), "the bytes run out: 24 more are needed at 12");
+    says(read(Kind::Pan1, &[0; 12], 8), (4, 12, 24), "the bytes run out: 24 asked for at 12");
     let mut data = vec![0; 8 + 160];
     data[8 + 120] = 168;
     data.extend(b"abc");
@@ -129,7 +129,7 @@ fn a_refused_section_tells_its_place() {
     let mut strip = write_strip(Little, &[Record::default()]).unwrap();
     strip.extend(b"ali1\x08\0\0\0");
     let refused = read_strip(Little, &strip).unwrap_err();
-    assert_eq!(refused.to_string(), "section at 84: the bytes run out: 1 more are needed at 92");
+    assert_eq!(refused.to_string(), "section at 84: the bytes run out: 1 asked for at 92");
 }
 
 #[test]

@@ -33,7 +33,7 @@ fn a_short_answer_or_record_is_told() {
 // Runs of words of each kind: where they begin, how many they are, and what they stay below.
 fn own_bounds(kind: u64) -> &'static [(usize, usize, u64)] {
     match kind {
-        1 => &[(PICTURE_COLORS, 16, 256), (PICTURE_MATERIAL, 1, 65536), (PICTURE_QUADS, 1, 256), (SHAPE_PRESENT, 1, 2), (SHAPE_INDEX, 1, 1 << 32)],
+        1 => &[(PICTURE_COLORS, 16, 256), (PICTURE_MATERIAL, 1, 65536), (SHAPE_PRESENT, 1, 2), (SHAPE_INDEX, 1, 1 << 32)],
         2 => &[
             (TEXT_BUFFER_SIZE, 4, 65536),
             (ORIGIN, 2, 3),
@@ -54,7 +54,6 @@ fn own_bounds(kind: u64) -> &'static [(usize, usize, u64)] {
             (TEXT_PRESENT, 1, 2),
             (LABEL_PRESENT, 1, 2),
             (LINES_PRESENT, 1, 2),
-            (LINES_COUNT, 1, 256),
         ],
         3 => &[
             (INFLATION, 4, 65536),
@@ -62,10 +61,8 @@ fn own_bounds(kind: u64) -> &'static [(usize, usize, u64)] {
             (WINDOW_FLAGS, 2, 2),
             (WINDOW_KIND, 1, 3),
             (NOT_DRAW_CONTENT, 1, 2),
-            (FRAMES_COUNT, 1, 256),
             (CONTENT_COLORS, 16, 256),
             (CONTENT_MATERIAL, 1, 65536),
-            (CONTENT_QUADS, 1, 256),
         ],
         4 => &[(DIRECTION, 1, 1 << 32), (DEFAULT_MARGIN, 1, 1 << 32), (IS_ALIGN_LAST_PANE, 1, 2), (IS_VERTICAL_ALIGNMENT, 1, 2)],
         _ => &[],
@@ -97,6 +94,49 @@ fn a_word_beyond_its_bound_is_told() {
             let mut record = good;
             record[word] = bound - 1;
             assert_ne!(written(&record).0, BAD_WORD);
+        }
+    }
+}
+
+// The words that document 01 says a write does not read: counts, label place and label length.
+fn unread(kind: u64) -> &'static [usize] {
+    match kind {
+        1 => &[PICTURE_QUADS],
+        2 => &[LABEL_PLACE, LABEL_LENGTH, LINES_COUNT],
+        3 => &[FRAMES_COUNT, CONTENT_QUADS],
+        _ => &[],
+    }
+}
+
+#[test]
+fn a_write_reads_no_counts() {
+    let lists = WriteLists { quads: &[7; 16], units: &[65], lines: &[8; 4], frames: &[9, 1], label: b"label" };
+    for kind in 1..4 {
+        let mut good = [0; RECORD_WORDS];
+        good[KIND] = kind;
+        if kind == 2 {
+            good[TEXT_LENGTH] = 2;
+            good[TEXT_FLAGS + 6] = 1;
+            for present in [TEXT_PRESENT, LABEL_PRESENT, LINES_PRESENT] {
+                good[present] = 1;
+            }
+        }
+        let write = |record: &[u64]| {
+            let (mut body, mut section, mut answers) = ([0; 400], [0; 400], [Answer::default(); 2]);
+            let codes = [
+                calls::write_body(LITTLE, record, lists, &mut body, 8, &mut answers[0]),
+                calls::write_section(LITTLE, record, lists, &mut section, 0, &mut answers[1]),
+            ];
+            (codes, answers, body, section)
+        };
+        let expected = write(&good);
+        assert_eq!(expected.0, [WRITTEN; 2]);
+        for word in unread(kind) {
+            for value in [1, 255, 256, 1 << 63, u64::MAX] {
+                let mut record = good;
+                record[*word] = value;
+                assert_eq!(write(&record), expected);
+            }
         }
     }
 }

@@ -13,6 +13,7 @@ use pane_read::Pane;
 ghost use mathlib.Core.Path.{_≡_};
 ghost use Prim.Native.Nat.{_^_, _<_};
 ghost use lib.ListN.{length};
+ghost use Rattle.core_checks.specs.Checks.{parsedByNumber, writtenByNumber};
 ghost use Rattle.core.specs.Bytes.{Room, Put};
 ghost use Rattle.pane_read.specs.Pane.{Sound};
 ghost use Rattle.alignment.specs.Body.{Blank, encodeBody, alignmentRead, alignmentParsed, alignmentWriteChecked, alignmentWritten, alignmentOutput};
@@ -62,6 +63,7 @@ pub fn read(order: ByteOrder, data: &[u8], p: Place, place: usize) -> AlignmentP
 // The alignment pane at a place: checks 1, 2, the reads with 4, then 7.
 pub fn parse(order: ByteOrder, data: &[u8], place: usize) -> AlignmentParsed
     ensures { λ r. ⌜ r ≡ alignmentParsed order (now («data» .entry)) place ⌝ }
+    ensures { λ r. ⌜ parsedByNumber (r .answer) ≡ parsedByNumber (alignmentParsed order (now («data» .entry)) place .answer) ⌝ }
 {
     let p = checks::body_start(data.len(), place);
     match p {
@@ -93,6 +95,7 @@ pub fn put_body(order: ByteOrder, out: &mut [u8], p: usize, b: Pane, a: Alignmen
 pub fn write(order: ByteOrder, b: Pane, a: AlignmentPane, out: &mut [u8], place: usize) -> Written
     ensures { λ r. ⌜ r ≡ alignmentWritten b (length (now (out .entry))) place ⌝ }
     ensures { λ _. ⌜ now (out .exit) ≡ alignmentOutput order b a (now (out .entry)) place ⌝ }
+    ensures { λ r. ⌜ writtenByNumber r ≡ writtenByNumber (alignmentWritten b (length (now (out .entry))) place) ⌝ }
 {
     let p = write_checked(b, out.len(), place);
     match p {

@@ -3,13 +3,13 @@ use mathlib.Core.Path.{_≡_, refl, sym, ap, _∙_}
 use Prim.Native.Nat.{ℕ, zero, suc, _+_, _-_, _*_, _^_, _≤_, _<_}
 use native.Mathlib.Omega.{arith}
 use mathlib.Core.Bool.{Bool, true, false, cond}
-use mathlib.Core.List.{List, [], _∷_, _++_, append-assoc}
+use mathlib.Core.List.{List, [], _∷_, _++_, append-assoc, append-nil}
 use lib.ListN.{length, take, drop, replicate, length-append, length-replicate}
 use lib.Seq.{take-at, drop-at, take-append-seam}
 use lib.Dec.{eqb, lit≤}
 use borrow.Author.Tests.{le-leb, lt-ltb}
 use native.Mathlib.Nat.{add-assoc, mul-suc, mul-zero}
-use Rattle.core.specs.Bytes.{bytesOf, bytesOfAll, part, numberAt, fixed}
+use Rattle.core.specs.Bytes.{spelled, bytesOf, bytesOfAll, part, numberAt, fixed}
 use Rattle.core.specs.Taken.{Taken, advanced, numberTaken, stringTaken, labelTaken, upToNul, hasZero, string24Of, string8Of, string24Taken, string8Taken}
 use Rattle.core.specs.declared.text.String24Taken.{String24Taken}
 use Rattle.core.specs.declared.text.String8Taken.{String8Taken}
@@ -34,6 +34,10 @@ pub holds-right : {s : List ℕ} {p : ℕ} (xs ys : List ℕ) (w : ℕ) → leng
 holds-right {s} {p} xs ys w h a =
     record { before = a.before ++ xs; after = a.after; whole = a.whole ∙ simp append-assoc; place = simp length-append (omega (arith, a.place, h)) }
 
+-- a list stands at the start of itself
+pub holds-whole : (s : List ℕ) → Holds s 0 s
+holds-whole s = record { before = []; after = []; whole = sym (append-nil s); place = refl }
+
 -- the two parts of what stands somewhere
 pub split : {s : List ℕ} {p : ℕ} (xs ys : List ℕ) (w : ℕ) → length xs ≡ w → Holds s p (xs ++ ys) → Holds s p xs × Holds s (p + w) ys
 split xs ys w h a = (holds-left xs ys a, holds-right xs ys w h a)
@@ -57,6 +61,11 @@ number-back {s} c order w v h a =
       holds-part (bytesOf order w v) w l a,
       spelled-bytes order w v h,
     )
+
+-- the number there
+pub number-stands : {s : List ℕ} {p : ℕ} (order : ByteOrder) (w v : ℕ) → v < 256 ^ w → Holds s p (bytesOf order w v) → numberAt order w s p ≡ v
+unfolding numberAt
+number-stands order w v h a = ap (spelled order) (holds-part (bytesOf order w v) w (length-bytes order w v) a) ∙ spelled-bytes order w v h
 
 -- a list of numbers that fit w bytes each
 unfoldable pub Fit : ℕ → List ℕ → Type 0

@@ -1,5 +1,6 @@
 -- Document 01's number and figures of each refusal, in the order of its table. A figure that the table does not name is 0.
 use Prim.Native.Nat.{ℕ}
+use mathlib.Core.List.{List}
 use Rattle.core.specs.declared.error.Refusal.{Refusal}
 use Rattle.core.specs.declared.error.Refusal.the-variants.{TooLong, BadPlace, ShortList, UnexpectedEof, NoNul, PerCharacter, IllFormedUtf8, SectionSize, BadName, Reserve0, ListLength, BadFlip, TextLength, IllFormedUtf16, NoLineBit, OutputEnd}
 
@@ -56,3 +57,12 @@ figureB (TextLength units text) = text
 figureB (IllFormedUtf16 units) = 0
 figureB NoLineBit = 0
 figureB (OutputEnd end length) = length
+
+-- ---- an answer by number: what an accepted call answers, or the number of the row that refused it, with a and b
+
+pub data ByNumber : Type 0 where
+  accepted : List ℕ → ByNumber
+  refused : ℕ → ℕ → ℕ → ByNumber
+
+abbrev pub refusalByNumber : Refusal → ByNumber
+refusalByNumber why = refused (numberOf why) (figureA why) (figureB why)

@@ -1,5 +1,5 @@
 -- What passed checks tell, and what lets a check pass.
-use mathlib.Core.Path.{_≡_, refl}
+use mathlib.Core.Path.{_≡_, refl, ap}
 use Prim.Native.Nat.{ℕ, _+_, _*_, _%_, _≤_}
 use mathlib.Core.List.{List}
 use native.Mathlib.Omega.{arith}
@@ -7,10 +7,12 @@ use mathlib.Core.Bool.{Bool, true, false, _||_}
 use lib.Dec.{ltb}
 use borrow.Author.Tests.{ltb-false, le-ltb}
 use Rattle.core.specs.Taken.{start, stopIf}
-use Rattle.core_checks.specs.Checks.{lengthChecked, bodyChecked, sectionChecked, bodyStart, sectionStart, listChecked, countBad, countChecked, endChecked, unlessRefused, writtenOf}
+use Rattle.core_checks.specs.Checks.{lengthChecked, bodyChecked, sectionChecked, bodyStart, sectionStart, listChecked, countBad, countChecked, endChecked, unlessRefused, writtenOf, parsedByNumber, writtenByNumber}
 use Rattle.core.specs.Bytes.{splice, Put}
 use Rattle.core.specs.declared.error.Refusal.{Refusal}
 use Rattle.core.specs.declared.error.Refusal.the-variants.{OutputEnd}
+use Rattle.core_checks.specs.declared.checks.Parsed.{Parsed}
+use Rattle.core_checks.specs.declared.checks.Written.{Written}
 use Rattle.core_checks.specs.declared.checks.Written.the-variants as Writtens
 use Rattle.core.specs.declared.cursor.Cursor.{Cursor}
 use Rattle.core.specs.declared.cursor.Place.{Place}
@@ -115,12 +117,25 @@ end-passes c end n h = passed c _ _ (le-ltb n end h)
 
 -- ---- what a write answers, and the output after it
 
-pub wrote : {o o′ e : List ℕ} {at w r : ℕ} (p : Place) (c : Cursor) → p ≡ At c → Put o at w e r o′
-    → (Writtens.End r ≡ writtenOf p (at + w)) × (o′ ≡ unlessRefused p o (splice o at e))
+-- whatever a refusal would have kept
+pub wrote : {o o′ e : List ℕ} {at w r : ℕ} {c : Cursor} (p : Place) (kept : List ℕ) → p ≡ At c → Put o at w e r o′
+    → (Writtens.End r ≡ writtenOf p (at + w)) × (o′ ≡ unlessRefused p kept (splice o at e))
 unfolding writtenOf unlessRefused
-wrote p c h k = rw (h, k .place, k .bytes) (refl, refl)
+wrote p kept h k = rw (h, k .place, k .bytes) (refl, refl)
 
 pub not-wrote : (o new : List ℕ) (end : ℕ) (p : Place) (why : Refusal) → p ≡ Refused why
     → (Writtens.Refused why ≡ writtenOf p end) × (o ≡ unlessRefused p o new)
 unfolding writtenOf unlessRefused
 not-wrote o new end p why h = rw h (refl, refl)
+
+-- ---- what is known by the case is known by document 01's number
+
+pub read-numbered : {P : Type 0} {r w : P} → r ≡ w → (answer : P → Parsed) → parsedByNumber (answer r) ≡ parsedByNumber (answer w)
+read-numbered e answer = ap (λ x. parsedByNumber (answer x)) e
+
+pub write-numbered : {B : Type 0} {r w : Written} → (r ≡ w) × B → (r ≡ w) × (B × (writtenByNumber r ≡ writtenByNumber w))
+write-numbered h = (h .0, (h .1, ap writtenByNumber (h .0)))
+
+-- and what was promised by number besides is left
+pub by-case : {A B N : Type 0} → A × (B × N) → A × B
+by-case h = (h .0, h .1 .0)

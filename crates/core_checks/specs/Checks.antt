@@ -1,7 +1,9 @@
 -- The checks that calls share, in the order of document 01's table, and what calls answer.
 use Prim.Native.Nat.{ℕ, _*_, _%_}
 use mathlib.Core.Bool.{Bool, _||_}
+use mathlib.Core.List.{[], _∷_}
 use lib.Dec.{ltb}
+use Rattle.core.specs.Refusals.{ByNumber, accepted, refusalByNumber}
 use Rattle.core.specs.Taken.{start, stopIf}
 use Rattle.core.specs.declared.error.Refusal.the-variants.{TooLong, BadPlace, ShortList, ListLength, OutputEnd}
 use Rattle.core.specs.declared.cursor.Place.{Place}
@@ -61,3 +63,15 @@ unlessRefused (Refused why) blank value = blank
 unfoldable pub writtenOf : Place → ℕ → Written
 writtenOf (At c) end = Writtens.End end
 writtenOf (Refused why) end = Writtens.Refused why
+
+-- ---- these answers by document 01's numbers
+
+-- the place after the body, and how far the read looked
+abbrev pub parsedByNumber : Parsed → ByNumber
+parsedByNumber (Parseds.Read end reach) = accepted (end ∷ reach ∷ [])
+parsedByNumber (Parseds.Refused why) = refusalByNumber why
+
+-- the end of what was written
+abbrev pub writtenByNumber : Written → ByNumber
+writtenByNumber (Writtens.End end) = accepted (end ∷ [])
+writtenByNumber (Writtens.Refused why) = refusalByNumber why

@@ -1,7 +1,8 @@
 // A line of hexadecimal digits, taken a byte at a time into lent bytes.
 ghost use mathlib.Core.Path.{_≡_};
 ghost use Prim.Native.Nat.{_+_, _*_, _/_, _<_};
-ghost use Rattle.digits.specs.Digits.{valueOf, blankLine, badLine, halfPut, lineAfter, bytesAfter, evenLine};
+ghost use lib.ListN.{drop};
+ghost use Rattle.digits.specs.Digits.{valueOf, blankLine, badLine, halfPut, lineAfter, bytesAfter, evenLine, beforeFeed, bytesAfterAll, fed};
 
 // The most digits of a line.
 pub const MOST: usize = 8192;
@@ -11,6 +12,12 @@ pub struct Line {
     pub digits: usize,
     pub begun: bool,
     pub bad: bool,
+}
+
+// The line after bytes up to a line feed, and the line feed's place, or the end where there is none.
+pub struct Fed {
+    pub line: Line,
+    pub at: usize,
 }
 
 pub fn blank_line() -> Line
@@ -99,6 +106,24 @@ pub fn digit(bytes: &mut [u8], line: Line, b: u8) -> Line
         begun: true,
         bad: line.bad,
     }
+}
+
+// The bytes of a text from a place on, up to a line feed.
+pub fn feed(text: &[u8], at: usize, bytes: &mut [u8], line: Line) -> Fed
+    ensures { λ r. ⌜ r ≡ fed (now (text .entry)) at line ⌝ }
+    ensures { λ _. ⌜ now (bytes .exit) ≡ bytesAfterAll (now (bytes .entry)) line (beforeFeed (drop at (now (text .entry)))) ⌝ }
+{
+    let mut l = line;
+    let mut i = at;
+    while i < text.len() {
+        let b = text[i];
+        if b == b'\n' {
+            return Fed { line: l, at: i };
+        }
+        l = digit(bytes, l, b);
+        i += 1;
+    }
+    Fed { line: l, at: i }
 }
 
 // Whether a line that has ended spells bytes, and no more than there is room for.

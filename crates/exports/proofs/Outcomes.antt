@@ -17,9 +17,10 @@ use Rattle.exports_answers.specs.Answers.{shortRecord, badOrder, orderOf, ofOrd
 use Rattle.exports_answers.specs.declared.answers.Answer.{Answer}
 use Rattle.exports_answers.specs.declared.answers.OrderFound.the-variants.{Is, Other}
 use Rattle.exports_read.specs.Outcomes.{ReadOutcome, readOutcome}
+use Rattle.exports_parts.specs.Counts.{filledOutcome}
 use Rattle.exports_parts.specs.Parts.{ofRecord}
 use Rattle.exports_parts.proofs.Outcomes.{of-short, of-bad, of-good}
-use Rattle.exports.specs.Calls.{WriteOutcome, writeOutcome, sectionWritten, bodyWritten, readSeen, seenRead, writeSeen, seenWrite, seenPart}
+use Rattle.exports.specs.Calls.{WriteOutcome, writeOutcome, sectionWritten, bodyWritten, readSeen, seenRead, writeSeen, seenWrite, seenPart, filledCall}
 use Rattle.flat_write.specs.Bodies.{bodyAnswer, bodyOutput}
 
 -- ---- writes
@@ -78,3 +79,12 @@ module _ (a : List ℕ) (o : Answer) where
   pub part-seen : (a′ : List ℕ) (n : ℕ) (x : Answer) → 3 ≤ length a → x ≡ o → returned n a′ ≡ given x a → returned n a′ ≡ seenPart o a
   unfolding seenPart
   part-seen a′ n x h eo eg = rw (le-ltb (length a) 3 h, ← eo) eg
+
+module _ (w f : List ℕ) where
+  pub filled-short : length f < 4 → returned 7 f ≡ filledCall w f
+  unfolding filledCall
+  filled-short h = rw (lt-ltb (length f) 4 h)
+
+  pub filled-seen : (f′ : List ℕ) (n : ℕ) → 4 ≤ length f → returned n f′ ≡ filledOutcome w f → returned n f′ ≡ filledCall w f
+  unfolding filledCall
+  filled-seen f′ n h e = rw (le-ltb (length f) 4 h) e

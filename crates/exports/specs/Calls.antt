@@ -9,6 +9,7 @@ use Rattle.strip_write.specs.Write.{writeAnswer, writeOutput}
 use Rattle.flat_records.specs.Records.{recordOf}
 use Rattle.exports_answers.specs.Answers.{ofOrder, writtenAnswer, Returned, returned, given}
 use Rattle.flat_write.specs.Bodies.{bodyAnswer, bodyOutput}
+use Rattle.exports_parts.specs.Counts.{filledOutcome}
 use Rattle.exports_parts.specs.Parts.{ofRecord, labelOutcome, captionOutcome}
 use Rattle.exports_read.specs.Outcomes.{ReadOutcome, sectionOutcome, bodyOutcome}
 use Rattle.exports_answers.specs.declared.answers.Answer.{Answer}
@@ -65,7 +66,7 @@ seenWrite x a o = cond (ltb (length a) 3) (writeSeen (returned 7 a) o) (writeSee
 unfoldable pub seenPart : Answer → List ℕ → Returned
 seenPart x a = cond (ltb (length a) 3) (returned 7 a) (given x a)
 
--- ---- THE SIX CALLS, of what is lent: bytes s, a place, lists l, the record's words w, the answer's words a; four of them of the number n of a byte order too
+-- ---- THE SEVEN CALLS, of what is lent: bytes s, a place, lists l, the record's words w, the answer's words a, the words f for the counts; four of them of the number n of a byte order too
 
 abbrev pub readSectionCall : ℕ → List ℕ → ℕ → Lists → List ℕ → List ℕ → ReadSeen
 readSectionCall n s p l w a = seenRead (sectionOutcome n s p l w) a w l
@@ -84,3 +85,6 @@ labelCall s w a = seenPart (labelOutcome s w) a
 
 abbrev pub captionCall : List ℕ → List ℕ → List ℕ → List ℕ → Returned
 captionCall s w lent a = seenPart (captionOutcome s w lent) a
+
+unfoldable pub filledCall : List ℕ → List ℕ → Returned
+filledCall w f = cond (ltb (length f) 4) (returned 7 f) (filledOutcome w f)

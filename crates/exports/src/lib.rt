@@ -1,15 +1,16 @@
-// The calls for C and Rust. A slice crosses as its pointer and its length; a record as the words of layout.rt; an answer as a number and three words.
-// Each call ends, whatever it is handed, and changes nothing where it does not answer PANE or WRITTEN, but for the answer's words.
+// The calls for C and Rust. A slice crosses as its pointer and its length; a record as the words of layout.rt; an answer as a number and three words, the counts of a record as a number and four.
+// Each call ends, whatever it is handed, and changes nothing where it does not answer PANE, WRITTEN or FILLED, but for the answer's words.
 mod calls;
 
 use exports_answers::answers;
+use exports_parts::counts;
 use exports_parts::parts;
 use exports_read::reads;
 use flat::layout;
 ghost use mathlib.Core.Path.{_≡_};
 ghost use Rattle.strip_records.specs.Whole.{lists};
 ghost use Rattle.exports_answers.specs.Answers.{returned};
-ghost use Rattle.exports.specs.Calls.{readSeen, writeSeen, readSectionCall, readBodyCall, writeSectionCall, writeBodyCall, labelCall, captionCall};
+ghost use Rattle.exports.specs.Calls.{readSeen, writeSeen, readSectionCall, readBodyCall, writeSectionCall, writeBodyCall, labelCall, captionCall, filledCall};
 
 // The section at a place of data.
 #[no_mangle]
@@ -159,4 +160,15 @@ pub extern "C" fn bidlomeqa_caption(
     }
     let x = parts::caption(strip, record, lent);
     answers::give(answer, x)
+}
+
+// How many numbers of each list a record counts: a read of it filled the first so many, and a write of it is to be handed so many.
+#[no_mangle]
+pub extern "C" fn bidlomeqa_filled(record: &[u64], filled: &mut [u64]) -> u64
+    ensures { λ r. ⌜ returned r (now (filled .exit)) ≡ filledCall (now («record» .entry)) (now (filled .entry)) ⌝ }
+{
+    if filled.len() < layout::FILLED_WORDS {
+        return layout::SHORT_ANSWER;
+    }
+    counts::counted(record, filled)
 }

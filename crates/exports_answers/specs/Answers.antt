@@ -3,13 +3,15 @@ use Prim.Native.Nat.{ℕ}
 use mathlib.Core.Bool.{cond}
 use mathlib.Core.List.{List, [], _∷_}
 use lib.Dec.{eqb}
+use lib.ListN.{getD}
 use Rattle.core.specs.Bytes.{splice}
-use Rattle.core.specs.Refusals.{numberOf, figureA, figureB}
+use Rattle.core.specs.Refusals.{ByNumber, accepted, refused, refusalByNumber}
 use Rattle.core.specs.declared.cursor.ByteOrder.{ByteOrder}
 use Rattle.core.specs.declared.cursor.ByteOrder.the-variants.{Little, Big}
 use Rattle.core.specs.declared.error.Refusal.{Refusal}
+use Rattle.core_checks.specs.Checks.{writtenByNumber}
 use Rattle.core_checks.specs.declared.checks.Written.{Written}
-use Rattle.core_checks.specs.declared.checks.Written.the-variants as Writtens
+use Rattle.strip_header.specs.Header.{sectionByNumber}
 use Rattle.strip_header.specs.declared.Section.{Section}
 use Rattle.strip_header.specs.declared.Section.the-variants as Sections
 use Rattle.exports_answers.specs.declared.answers.Answer.{Answer}
@@ -43,21 +45,28 @@ unlessOther Other bad named = bad
 abbrev pub ofOrder : {A : Type 0} → ℕ → (Answer → A) → (ByteOrder → A) → A
 ofOrder n bad named = unlessOther (orderOf n) (bad (badOrder n)) named
 
--- REFUSED: document 01's number and figures
-abbrev pub refusedAnswer : Refusal → Answer
-refusedAnswer why = answer 4 (numberOf why) (figureA why) (figureB why)
+-- an answer by document 01's numbers as words: what was accepted under its code, its values one after another; REFUSED with number and figures
+abbrev pub numberedAnswer : ℕ → ByNumber → Answer
+numberedAnswer code (accepted values) = answer code (getD values 0 0) (getD values 1 0) (getD values 2 0)
+numberedAnswer code (refused number a b) = answer 4 number a b
 
--- END, PASSED, PANE
+-- END, PASSED, PANE; of a refusal the code says nothing
+abbrev pub sectionCode : Section → ℕ
+sectionCode Sections.End = 0
+sectionCode (Sections.Passed next) = 1
+sectionCode (Sections.Pane end next reach) = 2
+sectionCode (Sections.Refused why) = 4
+
 abbrev pub sectionAnswer : Section → Answer
-sectionAnswer Sections.End = answer 0 0 0 0
-sectionAnswer (Sections.Passed next) = answer 1 next 0 0
-sectionAnswer (Sections.Pane end next reach) = answer 2 end next reach
-sectionAnswer (Sections.Refused why) = refusedAnswer why
+sectionAnswer s = numberedAnswer (sectionCode s) (sectionByNumber s)
 
 -- WRITTEN
 abbrev pub writtenAnswer : Written → Answer
-writtenAnswer (Writtens.End end) = answer 3 end 0 0
-writtenAnswer (Writtens.Refused why) = refusedAnswer why
+writtenAnswer w = numberedAnswer 3 (writtenByNumber w)
+
+-- REFUSED
+abbrev pub refusedAnswer : Refusal → Answer
+refusedAnswer why = numberedAnswer 4 (refusalByNumber why)
 
 -- PART: of the strip (0) or of the lent caption (1), from a place on, so many bytes
 abbrev pub partAnswer : ℕ → ℕ → ℕ → Answer

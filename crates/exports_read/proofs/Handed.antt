@@ -1,5 +1,5 @@
--- A record that a read handed out comes back as it was.
-use mathlib.Core.Path.{_≡_, refl}
+-- THE LAW: words that a read hands out pass the test of a write, and are to it the record that was read.
+use mathlib.Core.Path.{_≡_}
 use Prim.Native.Nat.{ℕ, _≤_}
 use mathlib.Core.Bool.{Bool, true, false, cond}
 use mathlib.Core.List.{List}
@@ -11,78 +11,66 @@ use Rattle.core.specs.declared.cursor.Place.{Place}
 use Rattle.core.specs.declared.cursor.Place.the-variants as Places
 use Rattle.core_checks.specs.declared.checks.Parsed.{Parsed}
 use Rattle.core_checks.specs.declared.checks.Parsed.the-variants as Parseds
-use Rattle.strip_records.specs.Whole.{Lists, blankRecord}
-use Rattle.strip_kinds.specs.Body.{bodyRead, bodyParsed}
-use Rattle.strip_read.specs.Read.{refusedWith, endedWith, passedWith, finished, readBody, byKind, orRefused, readAt, readSection}
+use Rattle.strip_records.specs.Typed.{Below}
+use Rattle.strip_records.specs.Whole.{Lists}
 use Rattle.strip_records.specs.declared.kind.Kind.{Kind}
-use Rattle.strip_records.specs.declared.kind.Kind.the-variants.{Pan1, Pic1, Txt1, Wnd1, Ali1}
 use Rattle.strip_records.specs.declared.kind.KindFound.{KindFound}
 use Rattle.strip_records.specs.declared.kind.KindFound.the-variants.{Is, Other}
 use Rattle.strip_records.specs.declared.record.Record.{Record}
+use Rattle.strip_kinds.specs.Body.{bodyRead, bodyParsed}
+use Rattle.strip_read.specs.Read.{refusedWith, endedWith, passedWith, finished, readBody, byKind, orRefused, readAt, readSection}
 use Rattle.strip_read.specs.declared.read.SectionRead.{SectionRead}
+use Rattle.flat_records.specs.Below.{wordsChecked}
 use Rattle.flat_records.specs.Records.{recordWords, recordOf}
-use Rattle.flat_records.specs.Typed.{TypedWords, OthersBlank}
+use Rattle.flat_records.specs.Typed.{TypedWords}
+use Rattle.flat_records.specs.declared.bounds.Checked.the-variants.{Good}
 use Rattle.flat_records.proofs.Again.{handed-back}
+use Rattle.flat_records.proofs.Passed.{handed-good}
+use Rattle.exports_read.proofs.Given.{Given, blank-given, body-given, parsed-given}
 
--- ---- a read leaves what the other kinds have blank
+-- ---- the record of a section read
 
-abbrev Others : Record → Type 0
-Others r = OthersBlank (r .kind) r
-
-blank-others : Others blankRecord
-unfolding blankRecord
-blank-others = (refl, refl, refl, refl)
-
-body-others : (order : ByteOrder) (k : Kind) (s : List ℕ) (p : Place) (body : ℕ) → Others (bodyRead order k s p body .«record»)
-unfolding bodyRead
-body-others order Pan1 s p body = (refl, refl, refl, refl)
-body-others order Pic1 s p body = (refl, refl, refl)
-body-others order Txt1 s p body = (refl, refl, refl)
-body-others order Wnd1 s p body = (refl, refl, refl)
-body-others order Ali1 s p body = (refl, refl, refl)
-
-finished-others : (a : Parsed) (next : ℕ) (r : Record) → Others r → Others (finished a next r .«record»)
+finished-given : (a : Parsed) (next : ℕ) (r : Record) → Given r → Given (finished a next r .«record»)
 unfolding finished refusedWith
-finished-others (Parseds.Read end reach) next r h = h
-finished-others (Parseds.Refused why) next r h = blank-others
+finished-given (Parseds.Read end reach) next r g = g
+finished-given (Parseds.Refused why) next r g = blank-given
 
-kind-others : (order : ByteOrder) (k : KindFound) (s : List ℕ) (p : Place) (body next : ℕ) → Others (byKind order k s p body next .«record»)
+kind-given : (order : ByteOrder) (k : KindFound) (s : List ℕ) (p : Place) (body next : ℕ) → Below 256 s → Given (byKind order k s p body next .«record»)
 unfolding byKind readBody passedWith
-kind-others order (Is k) s p body next = finished-others (bodyRead order k s p body .answer) next (bodyRead order k s p body .«record») (body-others order k s p body)
-kind-others order Other s p body next = blank-others
+kind-given order (Is k) s p body next h = finished-given (bodyRead order k s p body .answer) next (bodyRead order k s p body .«record») (body-given order k s p body h)
+kind-given order Other s p body next h = blank-given
 
-refused-others : (p : Place) (r : SectionRead) → Others (r .«record») → Others (orRefused p r .«record»)
+refused-given : (p : Place) (r : SectionRead) → Given (r .«record») → Given (orRefused p r .«record»)
 unfolding orRefused refusedWith
-refused-others (Places.At c) r h = h
-refused-others (Places.Refused why) r h = blank-others
+refused-given (Places.At c) r g = g
+refused-given (Places.Refused why) r g = blank-given
 
-end-others : (t : Bool) (r : SectionRead) → Others (r .«record») → Others (cond t endedWith r .«record»)
+end-given : (t : Bool) (r : SectionRead) → Given (r .«record») → Given (cond t endedWith r .«record»)
 unfolding endedWith
-end-others true r h = blank-others
-end-others false r h = h
+end-given true r g = blank-given
+end-given false r g = g
 
-at-others : (order : ByteOrder) (s : List ℕ) (p : ℕ) → Others (readAt order s p .«record»)
+at-given : (order : ByteOrder) (s : List ℕ) (p : ℕ) → Below 256 s → Given (readAt order s p .«record»)
 unfolding readAt
-at-others order s p = refused-others _ _ (kind-others order _ s _ _ _)
+at-given order s p h = refused-given _ _ (kind-given order _ s _ _ _ h)
 
-section-others : (order : ByteOrder) (s : List ℕ) (p : ℕ) (l : Lists) → Others (readSection order s p l .«record»)
+section-given : (order : ByteOrder) (s : List ℕ) (p : ℕ) (l : Lists) → Below 256 s → Given (readSection order s p l .«record»)
 unfolding readSection
-section-others order s p l = refused-others _ _ (end-others (eqb p (length s)) (readAt order s p) (at-others order s p))
+section-given order s p l h = refused-given _ _ (end-given (eqb p (length s)) (readAt order s p) (at-given order s p h))
 
-parsed-others : (order : ByteOrder) (k : Kind) (s : List ℕ) (body : ℕ) (l : Lists) → Others (bodyParsed order k s body l .«record»)
-unfolding bodyParsed
-parsed-others order Pan1 s body l = (refl, refl, refl, refl)
-parsed-others order Pic1 s body l = (refl, refl, refl)
-parsed-others order Txt1 s body l = (refl, refl, refl)
-parsed-others order Wnd1 s body l = (refl, refl, refl)
-parsed-others order Ali1 s body l = (refl, refl, refl)
+-- ---- THE LAW. Bytes are below 256, and a record has 116 words: no more is asked
 
--- ---- THE LAW: the words that a read stores are, handed to a write, the record that was read
+-- r is as the types of the code say; stored over w, its words pass the test of a write, and are r again
+pub record Again (r : Record) (w : List ℕ) : Type 0 where
+  pub typed : TypedWords r
+  pub good : wordsChecked (splice w 0 (recordWords r)) ≡ Good
+  pub same : recordOf (splice w 0 (recordWords r)) ≡ r
 
-pub section-again : (order : ByteOrder) (s : List ℕ) (p : ℕ) (l : Lists) (w : List ℕ) → TypedWords (readSection order s p l .«record») → 116 ≤ length w
-    → recordOf (splice w 0 (recordWords (readSection order s p l .«record»))) ≡ readSection order s p l .«record»
-section-again order s p l w t h = handed-back (readSection order s p l .«record») w t (section-others order s p l) h
+again : (r : Record) (w : List ℕ) → Given r → 116 ≤ length w → Again r w
+again r w g h = record { typed = g .typed; good = handed-good r w (g .typed) h; same = handed-back r w (g .typed) (g .others) h }
 
-pub body-again : (order : ByteOrder) (k : Kind) (s : List ℕ) (body : ℕ) (l : Lists) (w : List ℕ) → TypedWords (bodyParsed order k s body l .«record») → 116 ≤ length w
-    → recordOf (splice w 0 (recordWords (bodyParsed order k s body l .«record»))) ≡ bodyParsed order k s body l .«record»
-body-again order k s body l w t h = handed-back (bodyParsed order k s body l .«record») w t (parsed-others order k s body l) h
+pub section-again : (order : ByteOrder) (s : List ℕ) (p : ℕ) (l : Lists) (w : List ℕ) → Below 256 s → 116 ≤ length w → Again (readSection order s p l .«record») w
+section-again order s p l w b h = again (readSection order s p l .«record») w (section-given order s p l b) h
+
+pub body-again : (order : ByteOrder) (k : Kind) (s : List ℕ) (body : ℕ) (l : Lists) (w : List ℕ) → Below 256 s → 116 ≤ length w → Again (bodyParsed order k s body l .«record») w
+body-again order k s body l w b h = again (bodyParsed order k s body l .«record») w (parsed-given order k s body l b) h

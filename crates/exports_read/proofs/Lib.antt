@@ -1,2 +1,5 @@
 mod Reading
+mod Bytes
+mod Fields
+mod Given
 pub mod Handed

@@ -21,7 +21,7 @@ fn parse_pan1(order: ByteOrder, data: &[u8], place: usize, words: &mut [u64]) ->
     requires { ⌜ 116 ≤ length (now words) ⌝ }
     ensures { λ a. ⌜ ((l : Lists) → readOutcome a (now (words .exit)) l ≡ delivered (bodyFinished order Kind.Pan1 (now («data» .entry)) place noLists) (now (words .entry)) l) ⌝ }
 {
-    let read = pane::body::parse(order, data, place);
+    let read = pane::parse(order, data, place);
     let answer = read.answer;
     let base = read.pane;
     deliver_pan1(words, answer, 0, base)
@@ -38,7 +38,7 @@ fn parse_pic1(
     ensures { λ a. ⌜ ((l : Lists) → readOutcome a (now (words .exit)) l ≡ delivered (bodyFinished order Kind.Pic1 (now («data» .entry)) place (lists (now (quads .entry)) [] [] [])) (now (words .entry)) l) ⌝ }
     ensures { λ _. ⌜ now (quads .exit) ≡ quadsParsed order (now («data» .entry)) place (now (quads .entry)) ⌝ }
 {
-    let read = picture::body::parse(order, data, place, quads);
+    let read = picture::parse(order, data, place, quads);
     let answer = read.answer;
     let base = read.base;
     let own = read.picture;
@@ -57,7 +57,7 @@ fn parse_txt1(
     ensures { λ a. ⌜ ((l : Lists) → readOutcome a (now (words .exit)) l ≡ delivered (bodyFinished order Kind.Txt1 (now («data» .entry)) place (lists [] (now (units .entry)) (now (lines .entry)) [])) (now (words .entry)) l) ⌝ }
     ensures { λ _. ⌜ (now (units .exit) ≡ unitsParsed order (now («data» .entry)) place (now (units .entry)) (now (lines .entry))) × (now (lines .exit) ≡ linesParsed order (now («data» .entry)) place (now (units .entry)) (now (lines .entry))) ⌝ }
 {
-    let read = text_box::body::parse(order, data, place, units, lines);
+    let read = text_box::parse(order, data, place, units, lines);
     let answer = read.answer;
     let base = read.base;
     let own = read.text_box;
@@ -76,7 +76,7 @@ fn parse_wnd1(
     ensures { λ a. ⌜ ((l : Lists) → readOutcome a (now (words .exit)) l ≡ delivered (bodyFinished order Kind.Wnd1 (now («data» .entry)) place (lists (now (quads .entry)) [] [] (now (frames .entry)))) (now (words .entry)) l) ⌝ }
     ensures { λ _. ⌜ (now (quads .exit) ≡ parsedQuads order (now («data» .entry)) place (now (quads .entry)) (now (frames .entry))) × (now (frames .exit) ≡ parsedFrames order (now («data» .entry)) place (now (quads .entry)) (now (frames .entry))) ⌝ }
 {
-    let read = window::body::parse(order, data, place, quads, frames);
+    let read = window::parse(order, data, place, quads, frames);
     let answer = read.answer;
     let base = read.base;
     let own = read.window;
@@ -87,7 +87,7 @@ fn parse_ali1(order: ByteOrder, data: &[u8], place: usize, words: &mut [u64]) ->
     requires { ⌜ 116 ≤ length (now words) ⌝ }
     ensures { λ a. ⌜ ((l : Lists) → readOutcome a (now (words .exit)) l ≡ delivered (bodyFinished order Kind.Ali1 (now («data» .entry)) place noLists) (now (words .entry)) l) ⌝ }
 {
-    let read = alignment::body::parse(order, data, place);
+    let read = alignment::parse(order, data, place);
     let answer = read.answer;
     let base = read.base;
     let own = read.alignment;

@@ -1,11 +1,11 @@
 // A body that was read, as a section with its next place: its words are stored where it was not refused.
-use alignment_fields::AlignmentPane;
+use alignment::AlignmentPane;
 use core_checks::checks::Parsed;
 use exports_answers::answers;
 use exports_answers::answers::Answer;
 use flat_records::records;
-use pane_read::Pane;
-use picture_fields::PicturePane;
+use pane::Pane;
+use picture::PicturePane;
 use strip_header::Section;
 use text_box::TextBoxPane;
 use window::WindowPane;

@@ -1,5 +1,6 @@
 // The flat layout of a record, its answers, and nothing else: this file is the one place that defines them. The Rust crate includes it as it stands,
-// and the C header is made from it. A record is RECORD_WORDS words of 64 bits, one a field; what a word stays below is said beside it.
+// and the C header is made from it. A record is RECORD_WORDS words of 64 bits, one a field; what a word stays below is said beside it. Words that a write
+// does not look at may be any number.
 
 // ---- the base, in every record
 
@@ -56,7 +57,7 @@ pub const PICTURE_COLORS: usize = 62;
 // below 2^16
 pub const PICTURE_MATERIAL: usize = 78;
 
-// the count of a read, below 256; a write takes it from the lent list
+// the count of a read, below 256; a write does not look at it, and takes its count from the lent list
 pub const PICTURE_QUADS: usize = 79;
 
 // 0 or 1
@@ -130,16 +131,16 @@ pub const TEXT_PRESENT: usize = 110;
 // 0 or 1
 pub const LABEL_PRESENT: usize = 111;
 
-// where the label stands in the strip that was read; 0 where it is absent
+// where the label stands in the strip that was read; 0 where it is absent; a write does not look at it
 pub const LABEL_PLACE: usize = 112;
 
-// how many bytes it has without its NUL; 0 where it is absent
+// how many bytes it has without its NUL; 0 where it is absent; a write does not look at it
 pub const LABEL_LENGTH: usize = 113;
 
 // 0 or 1
 pub const LINES_PRESENT: usize = 114;
 
-// the count of a read, below 256; a write takes it from the lent list; 0 where the table is absent
+// the count of a read, below 256, and 0 where the table is absent; a write does not look at it, and takes its count from the lent list
 pub const LINES_COUNT: usize = 115;
 
 // ---- wnd1
@@ -159,7 +160,7 @@ pub const WINDOW_KIND: usize = 72;
 // 0 or 1
 pub const NOT_DRAW_CONTENT: usize = 73;
 
-// the count of a read, below 256; a write takes it from the lent list
+// the count of a read, below 256; a write does not look at it, and takes its count from the lent list
 pub const FRAMES_COUNT: usize = 74;
 
 // four corners of r, g, b, a
@@ -168,7 +169,7 @@ pub const CONTENT_COLORS: usize = 75;
 // below 2^16
 pub const CONTENT_MATERIAL: usize = 91;
 
-// the count of a read, below 256; a write takes it from the lent list
+// the count of a read, below 256; a write does not look at it, and takes its count from the lent list
 pub const CONTENT_QUADS: usize = 92;
 
 // ---- ali1
@@ -220,7 +221,7 @@ pub const SHORT_RECORD: u64 = 5;
 // A word of the record is not below its bound: the index of the first such word, 0, 0. Nothing was read or written.
 pub const BAD_WORD: u64 = 6;
 
-// The answer's words are fewer than ANSWER_WORDS. Nothing was read or written.
+// The answer's words are fewer than ANSWER_WORDS, or those for the counts fewer than FILLED_WORDS. Nothing was read or written.
 pub const SHORT_ANSWER: u64 = 7;
 
 // A label, or a caption from the strip: 0, its place, its length. A caption from the lent one: 1, 0, its length.
@@ -229,5 +230,11 @@ pub const PART: u64 = 8;
 // The byte order is neither LITTLE nor BIG: its number, 0, 0. Nothing was read or written.
 pub const BAD_ORDER: u64 = 9;
 
+// How many numbers of the quads, the units, the lines and the frames a record counts: four words.
+pub const FILLED: u64 = 10;
+
 // How many words an answer has.
 pub const ANSWER_WORDS: usize = 3;
+
+// How many words the counts of the four lists have.
+pub const FILLED_WORDS: usize = 4;

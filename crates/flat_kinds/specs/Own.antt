@@ -29,6 +29,7 @@ pictureWords x =
 abbrev pub shapeAt : List ℕ → ShapeIndex
 shapeAt w = cond (flagAt w 80) (shape.Index (wordAt w 81)) shape.Absent
 
+-- the count by its low eight bits, whatever its word is: a write does not read it
 unfoldable pub pictureAt : List ℕ → PicturePane
 pictureAt w = record {
   «vertex_colors» = colorsAt w 62;
@@ -74,6 +75,7 @@ windowFlagsAt w = record {
   «not_draw_content» = flagAt w 73;
 }
 
+-- the counts by their low eight bits, whatever their words are: a write does not read them
 abbrev pub contentAt : List ℕ → WindowContent
 contentAt w = record { «vertex_colors» = colorsAt w 75; «material_index» = halfAt w 91; «quad_count» = byteAt w 92 }
 

@@ -24,7 +24,7 @@ use Rattle.flat_records.proofs.BackParts.{nth}
 use Rattle.flat_records.proofs.BackBase.{base-back, picture-back, pane-alignment-back}
 use Rattle.flat_records.proofs.BackOwn.{text-box-back, window-back}
 
-kind-back : (k : Kind) → kindOf (kindNumber k) ≡ k
+pub kind-back : (k : Kind) → kindOf (kindNumber k) ≡ k
 kind-back Pan1 = refl
 kind-back Pic1 = refl
 kind-back Txt1 = refl
@@ -55,14 +55,17 @@ record-back {w} r t o a =
     let e = ap kindOf (nth (kindNumber (r .kind) ∷ []) k 0 (kindNumber (r .kind)) (omega arith) refl) ∙ kind-back (r .kind) in
     ap (λ (j : Kind). recordBy j w) e ∙ own-back r (r .kind) refl t o b own
 
--- THE LAW: stored by a read into a record's words, and taken from them by a write, a record is the same
-pub handed-back : (r : Record) (w : List ℕ) → TypedWords r → OthersBlank (r .kind) r → 116 ≤ length w → recordOf (splice w 0 (recordWords r)) ≡ r
-handed-back r w t o h =
+-- the words of a record, stored at the front
+pub stands : (r : Record) (w : List ℕ) → TypedWords r → 116 ≤ length w → Holds (splice w 0 (recordWords r)) 0 (recordWords r)
+stands r w t h =
     let k = record-long r (t .fields .base .name) (t .fields .base .user) in
-    record-back r t o
-    (record {
+    record {
       before = [];
       after = drop (0 + length (recordWords r)) w;
       whole = splice-cut w 0 (recordWords r) (omega arith);
       place = refl;
-    })
+    }
+
+-- THE LAW: stored by a read into a record's words, and taken from them by a write, a record is the same
+pub handed-back : (r : Record) (w : List ℕ) → TypedWords r → OthersBlank (r .kind) r → 116 ≤ length w → recordOf (splice w 0 (recordWords r)) ≡ r
+handed-back r w t o h = record-back r t o (stands r w t h)

@@ -6,3 +6,7 @@ mod BackOwn
 pub mod Again
 mod SameParts
 pub mod SameWords
+pub mod Alike
+pub mod AlikeRecords
+mod Passing
+pub mod Passed

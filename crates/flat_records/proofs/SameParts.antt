@@ -35,7 +35,7 @@ run-again w p (suc n) = ap (λ (l : List ℕ). splice l (p + 1) (run w (p + 1) n
 never : (i : ℕ) → Bad i ≡ Good → ⊥
 never i e = let z : _≡_ {A = ℕ} 0 1 = cc in omega arith
 
-not-bad : (t : Bool) (c : Checked) (i : ℕ) → cond t c (Bad i) ≡ Good → (t ≡ true) × (c ≡ Good)
+pub not-bad : (t : Bool) (c : Checked) (i : ℕ) → cond t c (Bad i) ≡ Good → (t ≡ true) × (c ≡ Good)
 not-bad true c i e = (refl, e)
 not-bad false c i e = absurd (never i e)
 

@@ -1,4 +1,4 @@
--- THE LAW: words that pass the test for bounds, and in which what is absent is 0, come back from their record the same.
+-- THE LAW: words that pass the test for bounds, in which what is absent is 0 and each count is below 256, come back from their record the same.
 use mathlib.Core.Path.{_≡_, refl, ap, _∙_, subst}
 use Prim.Native.Nat.{ℕ, zero, suc, _+_, _<_}
 use native.Mathlib.Nat.{mod-eq-of-lt}
@@ -78,8 +78,8 @@ module _ (w : List ℕ) where
 
   picture-same : AllScanned pictureBounds w → Plain Pic1 w → pictureWords (pictureAt w) ≡ run w 62 20
   unfolding run pictureWords pictureAt
-  picture-same (c, (m, (q, (p, (i, z))))) k =
-      let e : halfAt w 78 ∷ byteAt w 79 ∷ [] ≡ getD w 78 0 ∷ getD w 79 0 ∷ [] = rw (mod-eq-of-lt (below m 0 (omega arith)), mod-eq-of-lt (below q 0 (omega arith))) in
+  picture-same (c, (m, (p, (i, z)))) (q, k) =
+      let e : halfAt w 78 ∷ byteAt w 79 ∷ [] ≡ getD w 78 0 ∷ getD w 79 0 ∷ [] = rw (mod-eq-of-lt (below m 0 (omega arith)), mod-eq-of-lt q) in
       join (colors62 c) (join e (shape-same (getD w 80 0) refl (below p 0 (omega arith)) i k))
 
   -- ---- txt1
@@ -123,15 +123,15 @@ module _ (w : List ℕ) where
   label-same (suc zero) e h k = rw e
   label-same (suc (suc n)) e h k = absurd (omega arith)
 
-  lines-same : (n : ℕ) → getD w 114 0 ≡ n → n < 2 → Scanned w 115 1 256 → (n ≡ 0 → getD w 115 0 ≡ 0) → linesWords (linesAt w) ≡ run w 114 2
+  lines-same : (n : ℕ) → getD w 114 0 ≡ n → n < 2 → getD w 115 0 < 256 → (n ≡ 0 → getD w 115 0 ≡ 0) → linesWords (linesAt w) ≡ run w 114 2
   unfolding run
   lines-same zero e h s k = rw (e, k refl)
-  lines-same (suc zero) e h s k = rw (e, mod-eq-of-lt (below s 0 (omega arith)))
+  lines-same (suc zero) e h s k = rw (e, mod-eq-of-lt s)
   lines-same (suc (suc n)) e h s k = absurd (omega arith)
 
   text-box-same : AllScanned fontBounds w → AllScanned shadowBounds w → Plain Txt1 w → textBoxWords (textBoxAt w) ≡ run w 62 54
   unfolding run textBoxWords textBoxAt
-  text-box-same (s, (o, (a, (f, (m, (c, y)))))) (h, (d, (t, (p, (l, (n, z)))))) (kl, kt) =
+  text-box-same (s, (o, (a, (f, (m, (c, y)))))) (h, (d, (t, (p, (l, z))))) (kl, kt, n) =
       join (indices-same s o a)
       (join (text-flags-same f)
       (join (font-same f m c)
@@ -144,19 +144,19 @@ module _ (w : List ℕ) where
   unfolding run windowAt
   sides-same s = rw (side-word (getD w 62 0) (below s 0 (omega arith)), side-word (getD w 63 0) (below s 1 (omega arith)), side-word (getD w 64 0) (below s 2 (omega arith)), side-word (getD w 65 0) (below s 3 (omega arith)), side-word (getD w 66 0) (below s 4 (omega arith)), side-word (getD w 67 0) (below s 5 (omega arith)), side-word (getD w 68 0) (below s 6 (omega arith)), side-word (getD w 69 0) (below s 7 (omega arith)))
 
-  window-flags-same : Scanned w 70 2 2 → Scanned w 72 1 3 → Scanned w 73 1 2 → Scanned w 74 1 256 → windowFlagsWords (windowFlagsAt w) (byteAt w 74) ≡ run w 70 5
+  window-flags-same : Scanned w 70 2 2 → getD w 72 0 < 3 → Scanned w 73 1 2 → getD w 74 0 < 256 → windowFlagsWords (windowFlagsAt w) (byteAt w 74) ≡ run w 70 5
   unfolding run
-  window-flags-same f k d n = rw (flag-word (getD w 70 0) (below f 0 (omega arith)), flag-word (getD w 71 0) (below f 1 (omega arith)), window-kind-word (getD w 72 0) (below k 0 (omega arith)), flag-word (getD w 73 0) (below d 0 (omega arith)), mod-eq-of-lt (below n 0 (omega arith)))
+  window-flags-same f k d n = rw (flag-word (getD w 70 0) (below f 0 (omega arith)), flag-word (getD w 71 0) (below f 1 (omega arith)), window-kind-word (getD w 72 0) k, flag-word (getD w 73 0) (below d 0 (omega arith)), mod-eq-of-lt n)
 
   colors75 : Scanned w 75 16 256 → colorsWords (colorsAt w 75) ≡ run w 75 16
   unfolding run
   colors75 s = join (color-same 75 (below s 0 (omega arith)) (below s 1 (omega arith)) (below s 2 (omega arith)) (below s 3 (omega arith))) (join (color-same 79 (below s 4 (omega arith)) (below s 5 (omega arith)) (below s 6 (omega arith)) (below s 7 (omega arith))) (join (color-same 83 (below s 8 (omega arith)) (below s 9 (omega arith)) (below s 10 (omega arith)) (below s 11 (omega arith))) (color-same 87 (below s 12 (omega arith)) (below s 13 (omega arith)) (below s 14 (omega arith)) (below s 15 (omega arith)))))
 
-  window-same : AllScanned windowBounds w → windowWords (windowAt w) ≡ run w 62 31
+  window-same : AllScanned windowBounds w → Plain Wnd1 w → windowWords (windowAt w) ≡ run w 62 31
   unfolding run windowWords windowAt
-  window-same (s, (f, (k, (d, (n, (c, (m, (q, z)))))))) =
-      let e : halfAt w 91 ∷ byteAt w 92 ∷ [] ≡ getD w 91 0 ∷ getD w 92 0 ∷ [] = rw (mod-eq-of-lt (below m 0 (omega arith)), mod-eq-of-lt (below q 0 (omega arith))) in
-      join (sides-same s) (join (window-flags-same f k d n) (join (colors75 c) e))
+  window-same (s, (f, (k, (d, (c, (m, z)))))) (n, q) =
+      let e : halfAt w 91 ∷ byteAt w 92 ∷ [] ≡ getD w 91 0 ∷ getD w 92 0 ∷ [] = rw (mod-eq-of-lt (below m 0 (omega arith)), mod-eq-of-lt q) in
+      join (sides-same s) (join (window-flags-same f (omega (arith, below k 0 (omega arith))) d n) (join (colors75 c) e))
 
   -- ---- ali1
 
@@ -173,7 +173,7 @@ module _ (w : List ℕ) where
   whole-same Txt1 e b o p =
       let (f, s) = all-good (checkedBy Good fontBounds w) shadowBounds w o in
       ap (splice w 0) (join (one e) (join (base-same b) (text-box-same (all-good Good fontBounds w f .1) s p))) ∙ run-again w 0 116
-  whole-same Wnd1 e b o p = ap (splice w 0) (join (one e) (join (base-same b) (window-same (all-good Good windowBounds w o .1)))) ∙ run-again w 0 93
+  whole-same Wnd1 e b o p = ap (splice w 0) (join (one e) (join (base-same b) (window-same (all-good Good windowBounds w o .1) p))) ∙ run-again w 0 93
   whole-same Ali1 e b o p = ap (splice w 0) (join (one e) (join (base-same b) (alignment-same (all-good Good alignmentBounds w o .1)))) ∙ run-again w 0 66
 
   own-good : (k : Kind) (c : Checked) → ownChecked k c w ≡ Good → c ≡ Good

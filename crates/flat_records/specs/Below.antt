@@ -33,7 +33,8 @@ abbrev pub checkedBy : Checked → List Bound → List ℕ → Checked
 checkedBy c [] w = c
 checkedBy c (b ∷ bs) w = checkedBy (orScanned c w (b .from) (b .count) (b .bound)) bs w
 
--- ---- the bounds of layout.rt. A word that is not named here may be any number
+-- ---- the bounds of layout.rt. A word that is not named here may be any number: how long a name is, which a write refuses by 9;
+-- and what a write does not read, the counts of quads, lines and frames, the label's place and the label's length
 
 -- kind, pane flags, position, alpha, flag_ex, reserve0, name, user name, the floats
 abbrev pub baseBounds : List Bound
@@ -49,21 +50,21 @@ baseBounds =
     ∷ span 52 10 4294967296
     ∷ []
 
--- colours, material, quads, shape present, shape index
+-- colours, material, shape present, shape index
 abbrev pub pictureBounds : List Bound
-pictureBounds = span 62 16 256 ∷ span 78 1 65536 ∷ span 79 1 256 ∷ span 80 1 2 ∷ span 81 1 4294967296 ∷ []
+pictureBounds = span 62 16 256 ∷ span 78 1 65536 ∷ span 80 1 2 ∷ span 81 1 4294967296 ∷ []
 
 -- sizes and indices, origin, alignment, flags and measure kind, measure and tilt, font colours
 abbrev pub fontBounds : List Bound
 fontBounds = span 62 4 65536 ∷ span 66 2 3 ∷ span 68 1 4 ∷ span 69 15 2 ∷ span 84 3 4294967296 ∷ span 87 8 256 ∷ []
 
--- spaces and shadow, its colours, its tilt, text and label present, lines present, lines count
+-- spaces and shadow, its colours, its tilt, text and label present, lines present
 abbrev pub shadowBounds : List Bound
-shadowBounds = span 95 6 4294967296 ∷ span 101 8 256 ∷ span 109 1 4294967296 ∷ span 110 2 2 ∷ span 114 1 2 ∷ span 115 1 256 ∷ []
+shadowBounds = span 95 6 4294967296 ∷ span 101 8 256 ∷ span 109 1 4294967296 ∷ span 110 2 2 ∷ span 114 1 2 ∷ []
 
--- sides, flags, kind, not-draw, frames, colours, material, quads
+-- sides, flags, kind, not-draw, colours, material
 abbrev pub windowBounds : List Bound
-windowBounds = span 62 8 65536 ∷ span 70 2 2 ∷ span 72 1 3 ∷ span 73 1 2 ∷ span 74 1 256 ∷ span 75 16 256 ∷ span 91 1 65536 ∷ span 92 1 256 ∷ []
+windowBounds = span 62 8 65536 ∷ span 70 2 2 ∷ span 72 1 3 ∷ span 73 1 2 ∷ span 75 16 256 ∷ span 91 1 65536 ∷ []
 
 -- direction and margin, the two flags
 abbrev pub alignmentBounds : List Bound

@@ -1,3 +1,4 @@
 pub mod Records
 pub mod Below
 pub mod Typed
+pub mod Unread

@@ -1,4 +1,4 @@
-// The bounds that the words of a record stay below.
+// The bounds that the words of a record stay below. Counts, label place and label length have none: a write does not read them.
 use flat::layout;
 use strip_records::kind::Kind;
 ghost use mathlib.Core.Path.{_≡_};
@@ -27,7 +27,7 @@ fn scan(w: &[u64], from: usize, count: usize, bound: u64) -> Checked
 }
 
 // The same, unless a word before them is bad.
-fn below(c: Checked, w: &[u64], from: usize, count: usize, bound: u64) -> Checked
+pub fn below(c: Checked, w: &[u64], from: usize, count: usize, bound: u64) -> Checked
     requires { ⌜ from + count ≤ length (now w) ⌝ }
     ensures { λ r. ⌜ r ≡ orScanned c (now (w .entry)) from count bound ⌝ }
 {
@@ -58,7 +58,6 @@ fn pic1_checked(c: Checked, w: &[u64]) -> Checked
 {
     let c = below(c, w, layout::PICTURE_COLORS, 16, 256);
     let c = below(c, w, layout::PICTURE_MATERIAL, 1, 65_536);
-    let c = below(c, w, layout::PICTURE_QUADS, 1, 256);
     let c = below(c, w, layout::SHAPE_PRESENT, 1, 2);
     below(c, w, layout::SHAPE_INDEX, 1, 4_294_967_296)
 }
@@ -84,8 +83,7 @@ fn txt1_checked(c: Checked, w: &[u64]) -> Checked
     let c = below(c, w, layout::SHADOW_TOP_COLOR, 8, 256);
     let c = below(c, w, layout::SHADOW_ITALIC_TILT, 1, 4_294_967_296);
     let c = below(c, w, layout::TEXT_PRESENT, 2, 2);
-    let c = below(c, w, layout::LINES_PRESENT, 1, 2);
-    below(c, w, layout::LINES_COUNT, 1, 256)
+    below(c, w, layout::LINES_PRESENT, 1, 2)
 }
 
 fn wnd1_checked(c: Checked, w: &[u64]) -> Checked
@@ -96,10 +94,8 @@ fn wnd1_checked(c: Checked, w: &[u64]) -> Checked
     let c = below(c, w, layout::WINDOW_FLAGS, 2, 2);
     let c = below(c, w, layout::WINDOW_KIND, 1, 3);
     let c = below(c, w, layout::NOT_DRAW_CONTENT, 1, 2);
-    let c = below(c, w, layout::FRAMES_COUNT, 1, 256);
     let c = below(c, w, layout::CONTENT_COLORS, 16, 256);
-    let c = below(c, w, layout::CONTENT_MATERIAL, 1, 65_536);
-    below(c, w, layout::CONTENT_QUADS, 1, 256)
+    below(c, w, layout::CONTENT_MATERIAL, 1, 65_536)
 }
 
 fn ali1_checked(c: Checked, w: &[u64]) -> Checked

@@ -120,9 +120,11 @@ measureAt w = cond (flagAt w 83) (measure.Scale (vector2At w 84)) (measure.Size 
 abbrev pub textAt : List ℕ → Text
 textAt w = cond (flagAt w 110) text.Present text.Absent
 
+-- place and length may be any numbers: a write does not read them
 abbrev pub labelAt : List ℕ → Label
 labelAt w = cond (flagAt w 111) (label.At (getD w 112 0) (getD w 113 0)) label.Absent
 
+-- the count by its low eight bits, whatever its word is: a write does not read it
 abbrev pub linesAt : List ℕ → LineTable
 linesAt w = cond (flagAt w 114) (lines.Present (byteAt w 115)) lines.Absent
 

@@ -243,7 +243,7 @@ fn measure_of(w: &[u64]) -> FontMeasure
     }
 }
 
-fn text_of(w: &[u64]) -> Text
+pub fn text_of(w: &[u64]) -> Text
     requires { ⌜ 116 ≤ length (now w) ⌝ }
     ensures { λ r. ⌜ r ≡ textAt (now (w .entry)) ⌝ }
 {
@@ -268,7 +268,7 @@ pub fn label_of(w: &[u64]) -> Label
     }
 }
 
-fn lines_of(w: &[u64]) -> LineTable
+pub fn lines_of(w: &[u64]) -> LineTable
     requires { ⌜ 116 ≤ length (now w) ⌝ }
     ensures { λ r. ⌜ r ≡ linesAt (now (w .entry)) ⌝ }
 {

@@ -1,1 +1,2 @@
 mod Writing
+pub mod Unread

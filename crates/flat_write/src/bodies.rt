@@ -33,22 +33,22 @@ pub fn write(
 {
     let base = base::base_of(words);
     match kind {
-        Kind::Pan1 => pane::body::write(order, base, out, place),
+        Kind::Pan1 => pane::write(order, base, out, place),
         Kind::Pic1 => {
             let own = pic1::picture_of(words);
-            picture::body::write(order, base, own, quads, out, place)
+            picture::write(order, base, own, quads, out, place)
         }
         Kind::Txt1 => {
             let own = txt1::text_box_of(words);
-            text_box::body::write(order, base, own, units, lines, label, out, place)
+            text_box::write(order, base, own, units, lines, label, out, place)
         }
         Kind::Wnd1 => {
             let own = wnd1::window_of(words);
-            window::body::write(order, base, own, quads, frames, out, place)
+            window::write(order, base, own, quads, frames, out, place)
         }
         Kind::Ali1 => {
             let own = ali1::alignment_of(words);
-            alignment::body::write(order, base, own, out, place)
+            alignment::write(order, base, own, out, place)
         }
     }
 }

@@ -3,9 +3,9 @@ use core::cursor::ByteOrder;
 use core::error::Refusal;
 use core_checks::checks::Written;
 use libc::STDOUT_FILENO;
-use strip_header::Section;
-use strip_records::kind::Kind;
-use strip_records::record::Record;
+use strip::kind::Kind;
+use strip::read::Section;
+use strip::record::Record;
 ghost use Prim.Native.Nat.{_≤_};
 
 fn print(text: &[u8]) {
@@ -14,8 +14,9 @@ fn print(text: &[u8]) {
 
 // A number after a space.
 fn print_figure(n: usize) {
-    print(b" ");
-    io::print_decimal(STDOUT_FILENO, n as u64);
+    let mut text = [0u8; 21];
+    let k = lines::put_figure(&mut text, 0, n);
+    print(&text[..k]);
 }
 
 fn wide(b: u8) -> usize {
@@ -24,23 +25,22 @@ fn wide(b: u8) -> usize {
 
 // `no NUMBER a b`
 fn print_refusal(why: Refusal) {
-    print(b"no");
-    print_figure(why.number());
-    print_figure(why.a());
-    print_figure(why.b());
+    let mut text = [0u8; 65];
+    let k = lines::put_refusal(&mut text, 0, why);
+    print(&text[..k]);
 }
 
 // A blank record of a kind, with this reserve0.
 fn record_of(kind: Kind, reserve0: u8) -> Record {
-    let mut base = pane_read::blank_pane();
+    let mut base = pane::blank_pane();
     base.flag_ex.reserve0 = reserve0;
     Record {
         kind,
         base,
-        picture: picture_fields::blank_picture(),
-        text_box: text_box_read::blank_text_box(),
-        window: window_read::blank_window(),
-        alignment: alignment_fields::blank_alignment(),
+        picture: picture::blank_picture(),
+        text_box: text_box::blank_text_box(),
+        window: window::blank_window(),
+        alignment: alignment::blank_alignment(),
     }
 }
 
@@ -71,7 +71,7 @@ fn read_back(order: ByteOrder, data: &[u8]) {
     let mut units = [7u16; 32767];
     let mut lines = [7u32; 510];
     let mut frames = [7u16; 510];
-    let read = strip_read::read::read_section(
+    let read = strip::read::read_section(
         order,
         data,
         0,
@@ -118,7 +118,7 @@ fn answer(order: ByteOrder, out: &[u8], written: Written) {
 
 fn write_and_read(order: ByteOrder, r: Record, quads: &[u32], frames: &[u16]) {
     let mut out = [9u8; 16384];
-    let written = strip_write::write::write_section(
+    let written = strip::write::write_section(
         order,
         r,
         quads,

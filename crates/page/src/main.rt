@@ -1,190 +1,35 @@
 // Walks a stored page and prints a line for each section: `pan1 "Name" at 0, 84 bytes` for a pane, `pass "usd1" at 84, 16 bytes` for letters
 // of no kind, and at last `end at 100`, or `no NUMBER a b at 100: SENTENCE` where the section is refused, with the sentence of docs/REFUSALS.md.
-// The page is standard input, at most 65,535 bytes.
+// Between the quotes a quote and a backslash have a backslash before them, and control characters are written as `\xHH`; so are, of a name, characters
+// that end a line, and of letters of no kind all bytes of 0x80 and above (crate `escapes`). So no name can make a line of its own.
+// The page is standard input, at most 5,242,880 bytes: it lies on the stack, since a program has no other memory, and of the 8,388,608 bytes that a
+// stack has by default a quarter may go to arguments and environment. A longer page, and an input that cannot be read, is told by one line and not walked. All lines go
+// to standard output, and there is no exit status to tell them by: Rattle has none.
 use core::cursor::ByteOrder;
-use core::error::Refusal;
-use core::text::FixedString24;
+use libc::STDIN_FILENO;
 use libc::STDOUT_FILENO;
-use strip_header::Section;
-use strip_records::kind::Kind;
-use strip_records::record::Record;
 use walk::Step;
-ghost use mathlib.Core.Path.{_≡_};
-ghost use Prim.Native.Nat.{_-_};
-ghost use Rattle.strip_records.specs.Kinds.{letterBytes};
-
-// ---- the parts of a line
-
-// The letters of a kind, as they stand in a section.
-fn letters(kind: Kind) -> [u8; 4]
-    ensures { λ r. ⌜ r ≡ letterBytes kind ⌝ }
-{
-    let mut out = [0u8; 4];
-    core_write::writer::put_u32(ByteOrder::Little, &mut out, 0, kind.letters());
-    out
-}
-
-// How many bytes lie from a place to the next; none where the walk stayed.
-fn size(place: usize, next: usize) -> usize
-    ensures { λ r. ⌜ r ≡ next - place ⌝ }
-{
-    if place < next { next - place } else { 0 }
-}
+ghost use Prim.Native.Nat.{_≤_};
+ghost use lib.ListN.{length};
+ghost use Rattle.io.specs.Counts.{Counts};
 
 fn print(text: &[u8]) {
     io::write_all(STDOUT_FILENO, text);
 }
 
-fn print_number(n: usize) {
-    io::print_decimal(STDOUT_FILENO, n as u64);
-}
+// ---- the page
 
-// A number after a space.
-fn print_figure(n: usize) {
-    print(b" ");
-    print_number(n);
-}
-
-// `no NUMBER a b`
-fn print_figures(why: Refusal) {
-    print(b"no");
-    print_figure(why.number());
-    print_figure(why.a());
-    print_figure(why.b());
-}
-
-fn print_place(place: usize) {
-    print(b" at");
-    print_figure(place);
-}
-
-fn print_size(place: usize, next: usize) {
-    print_place(place);
-    print(b",");
-    print_figure(size(place, next));
-    print(b" bytes\n");
-}
-
-// The first n of these bytes, where there are so many.
-fn print_first(bytes: &[u8], n: usize) {
-    if n <= bytes.len() {
-        print(&bytes[..n]);
-    }
-}
-
-fn print_name(name: FixedString24) {
-    let bytes = name.bytes;
-    print_first(&bytes, name.count);
-}
-
-// ---- the lines
-
-fn print_named(kind: Kind, name: FixedString24, place: usize, next: usize) {
-    print(&letters(kind));
-    print(b" \"");
-    print_name(name);
-    print(b"\"");
-    print_size(place, next);
-}
-
-fn print_pane(record: Record, place: usize, next: usize) {
-    let kind = record.kind;
-    print_named(kind, record.base.pane_name, place, next);
-}
-
-fn print_passed(data: &[u8], place: usize, next: usize) {
-    print(b"pass \"");
-    if place <= data.len() {
-        print_first(&data[place..], 4);
-    }
-    print(b"\"");
-    print_size(place, next);
-}
-
-// A sentence with a number in it, and one with two.
-fn print_with(before: &[u8], n: usize, after: &[u8]) {
-    print(before);
-    print_number(n);
-    print(after);
-}
-
-fn print_with_two(before: &[u8], n: usize, between: &[u8], m: usize, after: &[u8]) {
-    print_with(before, n, between);
-    print_number(m);
-    print(after);
-}
-
-fn print_string(which: usize) {
-    match which {
-        1 => print(b"pane name"),
-        2 => print(b"user name"),
-        3 => print(b"label"),
-        _ => print(b"string"),
-    }
-}
-
-// What is wrong and where. A page is never too long, its places are multiples of 4 within it, and the lists are full: 4 to 8 are left.
-fn print_read_sentence(why: Refusal) {
-    match why {
-        Refusal::UnexpectedEof { offset, requested } => print_with_two(
-            b"the bytes run out: ",
-            requested,
-            b" more are needed at ",
-            offset,
-            b"",
-        ),
-        Refusal::NoNul { place } => print_with(
-            b"the label at ",
-            place,
-            b" meets no NUL before the end of the buffer",
-        ),
-        Refusal::PerCharacter { value } => print_with(
-            b"the text box has a per-character transform at offset ",
-            value,
-            b", which is not read",
-        ),
-        Refusal::IllFormedUtf8 { place, which } => {
-            print(b"the ");
-            print_string(which);
-            print_with(b" at ", place, b" is ill-formed UTF-8");
-        }
-        Refusal::SectionSize { place, size } => print_with_two(
-            b"the section size ",
-            size,
-            b" at ",
-            place,
-            b" is below 8, no multiple of 4, or passes the buffer",
-        ),
-        _ => print(b"no read of a page gives this"),
-    }
-}
-
-fn print_refusal(why: Refusal, place: usize) {
-    print_figures(why);
-    print_place(place);
-    print(b": ");
-    print_read_sentence(why);
-    print(b"\n");
-}
-
-fn print_end(place: usize) {
-    print(b"end");
-    print_place(place);
-    print(b"\n");
-}
-
-// The line of a section that begins at this place, from what was read of it.
+// The line of the section that begins at this place, from what was read of it: crate `page_lines` says which.
 fn print_section(data: &[u8], place: usize, read: Step) {
     let answer = read.answer;
-    match answer {
-        Section::End => print_end(place),
-        Section::Passed { next } => print_passed(data, place, next),
-        Section::Pane { next, .. } => print_pane(read.record, place, next),
-        Section::Refused(why) => print_refusal(why, place),
-    }
+    let record = read.record;
+    let kind = record.kind;
+    let base = record.base;
+    let name = base.pane_name;
+    let mut line = [0u8; 212];
+    let end = page_lines::put_line(&mut line, 0, data, place, answer, kind, name);
+    print(&line[..end]);
 }
-
-// ---- the page
 
 // A line for each section, until the walk stays where it is.
 fn print_page(
@@ -215,12 +60,69 @@ fn page(data: &[u8]) {
     print_page(data, &mut quads, &mut units, &mut lines, &mut frames);
 }
 
-fn main() {
-    let mut bytes = io::large_buffer();
-    let n = io::read_full(0, &mut bytes);
+// ---- standard input
+
+// What a read gave: the place after it, and whether it failed.
+struct Input {
+    end: usize,
+    failed: bool,
+}
+
+// One read into bytes from a place on. It stays at the place where the input has ended or the read failed.
+fn read_more(bytes: &mut [u8], at: usize) -> Input
+    requires { ⌜ at ≤ length (now bytes) ⌝ }
+    ensures { λ r. ⌜ (at ≤ r .end) × (r .end ≤ length (now (bytes .exit))) ⌝ }
+{
+    let got = libc::read(STDIN_FILENO, &mut bytes[at..]);
+    let n = io::count(got, &bytes[at..]);
+    Input {
+        end: at + n,
+        failed: got < 0,
+    }
+}
+
+// Reads until bytes are full, the input ends or a read fails.
+fn read_page(bytes: &mut [u8]) -> Input
+    ensures { λ r. ⌜ Counts (r .end) (now (bytes .exit)) ⌝ }
+{
+    let mut end = 0;
+    while end < bytes.len() {
+        let more = read_more(bytes, end);
+        let next = more.end;
+        if more.failed {
+            return Input { end, failed: true };
+        }
+        if next <= end {
+            return Input { end, failed: false };
+        }
+        end = next;
+    }
+    Input { end, failed: false }
+}
+
+// Reads the page and prints its lines, or why there are none. A page that fills bytes is too long.
+fn run(bytes: &mut [u8]) {
+    let input = read_page(bytes);
+    let n = input.end;
+    if input.failed {
+        print(b"standard input cannot be read\n");
+        return;
+    }
     if bytes.len() <= n {
-        print(b"more than 65535 bytes\n");
+        print(
+            b"more than 5242880 bytes: a page lies on the stack, which has 8388608 bytes by default\n",
+        );
         return;
     }
     page(&bytes[..n]);
+}
+
+// An array is lent by its type, and not as a slice, for the check's sake: it then does not count the zeros.
+fn run_in(bytes: &mut [u8; 5242881]) {
+    run(bytes);
+}
+
+fn main() {
+    let mut bytes = [0u8; 5242881];
+    run_in(&mut bytes);
 }

@@ -12,6 +12,7 @@ use pane_read::Pane;
 ghost use mathlib.Core.Path.{_≡_};
 ghost use Prim.Native.Nat.{_^_, _<_};
 ghost use lib.ListN.{length};
+ghost use Rattle.core_checks.specs.Checks.{parsedByNumber, writtenByNumber};
 ghost use Rattle.pane_read.specs.Pane.{blankPane};
 ghost use Rattle.pane.specs.Body.{paneRead, paneParsed, paneWriteChecked, paneWritten, paneOutput};
 
@@ -51,6 +52,7 @@ pub fn read(order: ByteOrder, data: &[u8], p: Place, place: usize) -> PaneParsed
 // The pane at a place: checks 1, 2, the reads with 4, then 7.
 pub fn parse(order: ByteOrder, data: &[u8], place: usize) -> PaneParsed
     ensures { λ r. ⌜ r ≡ paneParsed order (now («data» .entry)) place ⌝ }
+    ensures { λ r. ⌜ parsedByNumber (r .answer) ≡ parsedByNumber (paneParsed order (now («data» .entry)) place .answer) ⌝ }
 {
     let p = checks::body_start(data.len(), place);
     match p {
@@ -73,6 +75,7 @@ fn write_checked(b: Pane, length: usize, place: usize) -> Place
 pub fn write(order: ByteOrder, b: Pane, out: &mut [u8], place: usize) -> Written
     ensures { λ r. ⌜ r ≡ paneWritten b (length (now (out .entry))) place ⌝ }
     ensures { λ _. ⌜ now (out .exit) ≡ paneOutput order b (now (out .entry)) place ⌝ }
+    ensures { λ r. ⌜ writtenByNumber r ≡ writtenByNumber (paneWritten b (length (now (out .entry))) place) ⌝ }
 {
     let p = write_checked(b, out.len(), place);
     match p {

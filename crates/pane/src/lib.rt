@@ -5,12 +5,8 @@ pub use body::parse;
 pub use body::write;
 use core::cursor::ByteOrder;
 use core_write::writer;
-pub use pane_checks::checks;
 pub use pane_read::Pane;
-pub use pane_read::PaneTaken;
 pub use pane_read::blank_pane;
-pub use pane_read::take_pane;
-pub use pane_read::typed_pane;
 ghost use Rattle.core.specs.Bytes.{Room, Put};
 ghost use Rattle.pane_read.specs.Pane.{encodeHead, encodeTransform, encodePane, Sound};
 

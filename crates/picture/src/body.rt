@@ -13,6 +13,7 @@ use picture_fields::PicturePane;
 ghost use mathlib.Core.Path.{_≡_};
 ghost use Prim.Native.Nat.{_^_, _<_, _≤_};
 ghost use lib.ListN.{length};
+ghost use Rattle.core_checks.specs.Checks.{parsedByNumber, writtenByNumber};
 ghost use Rattle.core.specs.Bytes.{Room, Put};
 ghost use Rattle.pane_read.specs.Pane.{Sound};
 ghost use Rattle.picture_fields.specs.Picture.{GoodPicture};
@@ -80,6 +81,7 @@ fn read_start(length: usize, place: usize, quads: usize) -> Place
 pub fn parse(order: ByteOrder, data: &[u8], place: usize, quads: &mut [u32]) -> PictureParsed
     ensures { λ r. ⌜ r ≡ pictureParsed order (now («data» .entry)) place (length (now (quads .entry))) ⌝ }
     ensures { λ _. ⌜ now (quads .exit) ≡ quadsParsed order (now («data» .entry)) place (now (quads .entry)) ⌝ }
+    ensures { λ r. ⌜ parsedByNumber (r .answer) ≡ parsedByNumber (pictureParsed order (now («data» .entry)) place (length (now (quads .entry))) .answer) ⌝ }
 {
     let p = read_start(data.len(), place, quads.len());
     match p {
@@ -140,6 +142,7 @@ pub fn write(
 ) -> Written
     ensures { λ r. ⌜ r ≡ pictureWritten b x (now (quads .entry)) (length (now (out .entry))) place ⌝ }
     ensures { λ _. ⌜ now (out .exit) ≡ pictureOutput order b x (now (quads .entry)) (now (out .entry)) place ⌝ }
+    ensures { λ r. ⌜ writtenByNumber r ≡ writtenByNumber (pictureWritten b x (now (quads .entry)) (length (now (out .entry))) place) ⌝ }
 {
     let p = write_checked(b, x, quads, out.len(), place);
     match p {

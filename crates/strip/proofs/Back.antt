@@ -47,7 +47,7 @@ use Rattle.strip.proofs.BackKinds.{GoodWhole, BodyBack, bodyEnd, bodyRe
 
 -- ---- lengths
 
-length-letters : (k : Kind) → length (letterBytes k) ≡ 4
+pub length-letters : (k : Kind) → length (letterBytes k) ≡ 4
 unfolding letterBytes
 length-letters Pan1 = refl
 length-letters Pic1 = refl

@@ -12,8 +12,6 @@ use Rattle.core.specs.declared.cursor.Cursor.{Cursor}
 use Rattle.core.specs.declared.cursor.Place.the-variants.{At}
 use Rattle.core_checks.specs.declared.checks.Parsed.the-variants as Parseds
 use Rattle.core.proofs.Cursors.{pos-advanced, pos-moved, advanced-more, reach-level}
-use Rattle.core.specs.Lists.{numbersAt}
-use Rattle.core.proofs.Lists.{length-numbers}
 use Rattle.core.proofs.Back.{Holds, split, Fit}
 use Rattle.pane_read.specs.Pane.{encodePane}
 use Rattle.pane.specs.Body.{paneRead}
@@ -24,19 +22,13 @@ use Rattle.picture.specs.Body as picture
 use Rattle.picture_fields.specs.declared.PicturePane.{PicturePane}
 use Rattle.picture.proofs.Back as picture-laws
 use Rattle.text_box_read.specs.TextBox.{blankTextBox}
-use Rattle.text_box_parts.specs.Parts.{unitsOf, linesOf}
 use Rattle.text_box_read.specs.TextBox.{textBoxUnits, textBoxLines}
 use Rattle.text_box_caption.specs.Caption.{labelOf}
 use Rattle.text_box_write.specs.Written.{encodeTextBox}
 use Rattle.text_box.specs.Body as text-box
 use Rattle.text_box.specs.Same as text-box-same
-use Rattle.text_box_parts.specs.declared.Text.{Text}
-use Rattle.text_box_parts.specs.declared.Text.the-variants as text
-use Rattle.text_box_parts.specs.declared.LineTable.{LineTable}
-use Rattle.text_box_parts.specs.declared.LineTable.the-variants as line
 use Rattle.text_box_read.specs.declared.TextBoxPane.{TextBoxPane}
 use Rattle.text_box_read.specs.declared.TextBoxTaken.{TextBoxTaken}
-use Rattle.text_box_parts.proofs.Pairs.{length-pairs}
 use Rattle.text_box.proofs.Equal as text-box-laws
 use Rattle.window_read.specs.Window.{blankWindow}
 use Rattle.window_write.specs.Write.{windowLength, encodeWindow}
@@ -49,7 +41,7 @@ use Rattle.alignment.specs.Body as alignment
 use Rattle.alignment_fields.specs.declared.AlignmentPane.{AlignmentPane}
 use Rattle.alignment.proofs.Back as alignment-laws
 use Rattle.strip_records.specs.Whole.{Lists, Whole}
-use Rattle.strip.specs.Same.{SameOwn, readWhole, unitNumbers, lineNumbers}
+use Rattle.strip.specs.Same.{SameOwn, readWhole}
 use Rattle.strip_records.specs.Typed.{Typed}
 use Rattle.strip_kinds.specs.Body.{bodyRead, bodyLists}
 use Rattle.strip_write.specs.Write.{bodyLength, encodeBody}
@@ -58,6 +50,7 @@ use Rattle.strip_records.specs.declared.kind.Kind.the-variants.{Pan1, Pic1, Txt
 use Rattle.strip_records.specs.declared.record.Record.{Record}
 use Rattle.strip_kinds.specs.declared.body.BodyRead.{BodyRead}
 use Rattle.strip.proofs.Below.{below-fit, below-at}
+use Rattle.strip.proofs.Fills.{units-count, lines-count}
 use Rattle.strip_write.proofs.Cleared.{OwnGood}
 
 -- what the types and a write's checks say of a record with its lists and label
@@ -129,18 +122,6 @@ parsed-at d end reach e f = rw (e, f)
 -- a list over the front of another
 front : (n : ℕ) (l old : List ℕ) → n ≡ length l → take n (over l old) ≡ l
 front n l old h = rw h (take-append-seam l (drop (length l) old))
-
--- a read fills as many numbers as its record counts
-units-count : (order : ByteOrder) (s : List ℕ) (x : Text) (long at : ℕ) → unitNumbers x long ≡ length (unitsOf x (numbersAt order 2 (long / 2) s at))
-units-count order s text.Absent long at = refl
-units-count order s text.Present long at = sym (length-numbers order 2 (long / 2) s at)
-
-lines-count : (order : ByteOrder) (s : List ℕ) (x : LineTable) (at : ℕ) → lineNumbers x ≡ length (linesOf order s x at)
-lines-count order s line.Absent at = refl
-lines-count order s (line.Present count) at =
-    let a = length-numbers order 4 count s (at + 1) in
-    let b = length-numbers order 4 count s (at + 1 + 4 * count) in
-    sym (length-pairs _ _ (a ∙ sym b) ∙ ap (λ (n : ℕ). 2 * n) a)
 
 -- n bytes of a body with no seek, by a run that has looked as far as it stands
 straight : (c : Cursor) (body : ℕ) → c .pos ≡ body → c .reach ≡ c .pos → (n : ℕ) → parsedOf (At (advanced c n)) ≡ Parseds.Read (body + n) (body + n)

@@ -1,4 +1,5 @@
 pub mod Below
+pub mod Fills
 pub mod BackKinds
 pub mod Back
 pub mod Same

@@ -1,6 +1,6 @@
 -- A record with its lists and label as a read gives it, and when two of these are equal.
 use mathlib.Core.Path.{_≡_}
-use Prim.Native.Nat.{ℕ, _*_, _/_}
+use Prim.Native.Nat.{ℕ}
 use mathlib.Core.List.{List, []}
 use lib.ListN.{take}
 use Rattle.pane.specs.Same.{SamePane}
@@ -8,36 +8,16 @@ use Rattle.picture_fields.specs.Same.{SamePicture}
 use Rattle.text_box_caption.specs.Caption.{labelOf}
 use Rattle.text_box.specs.Same.{SameTextBox}
 use Rattle.text_box.specs.Same as text-box
-use Rattle.text_box_parts.specs.declared.Text.{Text}
-use Rattle.text_box_parts.specs.declared.Text.the-variants as text
-use Rattle.text_box_parts.specs.declared.LineTable.{LineTable}
-use Rattle.text_box_parts.specs.declared.LineTable.the-variants as line
 use Rattle.window.specs.Same.{SameWindow}
-use Rattle.strip_records.specs.Whole.{Lists, lists, noLists, Whole}
+use Rattle.strip_records.specs.Filled.{quadNumbers, unitNumbers, lineNumbers, frameNumbers}
+use Rattle.strip_records.specs.Whole.{Lists, lists, Whole}
 use Rattle.strip_records.specs.declared.kind.Kind.{Kind}
 use Rattle.strip_records.specs.declared.kind.Kind.the-variants.{Pan1, Pic1, Txt1, Wnd1, Ali1}
 use Rattle.strip_records.specs.declared.record.Record.{Record}
 
--- how many units a text has, and how many numbers a line table
-abbrev pub unitNumbers : Text → ℕ → ℕ
-unitNumbers text.Absent long = 0
-unitNumbers text.Present long = long / 2
-
-abbrev pub lineNumbers : LineTable → ℕ
-lineNumbers line.Absent = 0
-lineNumbers (line.Present count) = 2 * count
-
 -- the numbers of the lists that a read of the record fills: the first of each list, as many as the record counts
-abbrev pub filledBy : Kind → Record → Lists → Lists
-filledBy Pan1 r l = noLists
-filledBy Pic1 r l = lists (take (8 * r .picture .«quad_count») (l .quads)) [] [] []
-filledBy Txt1 r l =
-    lists [] (take (unitNumbers (r .«text_box» .text) (r .«text_box» .«text_length»)) (l .units)) (take (lineNumbers (r .«text_box» .«line_table»)) (l .lines)) []
-filledBy Wnd1 r l = lists (take (8 * r .window .content .«quad_count») (l .quads)) [] [] (take (2 * r .window .«frame_count») (l .frames))
-filledBy Ali1 r l = noLists
-
 abbrev pub filled : Record → Lists → Lists
-filled r l = filledBy (r .kind) r l
+filled r l = lists (take (quadNumbers r) (l .quads)) (take (unitNumbers r) (l .units)) (take (lineNumbers r) (l .lines)) (take (frameNumbers r) (l .frames))
 
 -- the label of a record in the strip s
 abbrev pub labelBy : Kind → List ℕ → Record → List ℕ

@@ -2,5 +2,6 @@
 pub mod record;
 
 pub use strip_read::read;
+pub use strip_records::filled;
 pub use strip_records::kind;
 pub use strip_write::write;

@@ -36,8 +36,8 @@ fn typed_record(r: Record)
 {
     pane_read::typed_pane(r.base);
     picture_fields::typed_picture(r.picture);
-    text_box::typed_text_box(r.text_box);
-    window::typed_window(r.window);
+    text_box_read::typed_text_box(r.text_box);
+    window_read::typed_window(r.window);
     alignment_fields::typed_alignment(r.alignment);
 }
 

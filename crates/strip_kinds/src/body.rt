@@ -30,10 +30,10 @@ fn read_pan1(order: ByteOrder, data: &[u8], p: Place, body: usize) -> BodyRead
         record: Record {
             kind: Kind::Pan1,
             base,
-            picture: picture_fields::blank_picture(),
+            picture: picture::blank_picture(),
             text_box: text_box::blank_text_box(),
             window: window::blank_window(),
-            alignment: alignment_fields::blank_alignment(),
+            alignment: alignment::blank_alignment(),
         },
     }
 }
@@ -55,7 +55,7 @@ fn read_pic1(order: ByteOrder, data: &[u8], p: Place, body: usize, quads: &mut [
             picture,
             text_box: text_box::blank_text_box(),
             window: window::blank_window(),
-            alignment: alignment_fields::blank_alignment(),
+            alignment: alignment::blank_alignment(),
         },
     }
 }
@@ -82,10 +82,10 @@ fn read_txt1(
         record: Record {
             kind: Kind::Txt1,
             base,
-            picture: picture_fields::blank_picture(),
+            picture: picture::blank_picture(),
             text_box,
             window: window::blank_window(),
-            alignment: alignment_fields::blank_alignment(),
+            alignment: alignment::blank_alignment(),
         },
     }
 }
@@ -112,10 +112,10 @@ fn read_wnd1(
         record: Record {
             kind: Kind::Wnd1,
             base,
-            picture: picture_fields::blank_picture(),
+            picture: picture::blank_picture(),
             text_box: text_box::blank_text_box(),
             window,
-            alignment: alignment_fields::blank_alignment(),
+            alignment: alignment::blank_alignment(),
         },
     }
 }
@@ -133,7 +133,7 @@ fn read_ali1(order: ByteOrder, data: &[u8], p: Place, body: usize) -> BodyRead
         record: Record {
             kind: Kind::Ali1,
             base,
-            picture: picture_fields::blank_picture(),
+            picture: picture::blank_picture(),
             text_box: text_box::blank_text_box(),
             window: window::blank_window(),
             alignment,

@@ -17,12 +17,17 @@ use Rattle.strip_records.specs.Kinds.{kindOf}
 use Rattle.strip_records.specs.Whole.{Lists}
 use Rattle.strip_kinds.specs.Body.{bodyRead, bodyLists}
 use Rattle.strip_read.specs.Read.{finished, readBody, byKind, listsByKind, orRefused, refusedWith, endedWith, passedWith, readAt, listsAt, readSection, listsAfter}
-use Rattle.strip_header.specs.Header.{readStart, sizeBad, headerTaken}
+use Rattle.strip_header.specs.Header.{readStart, sizeBad, headerTaken, sectionByNumber}
 use Rattle.strip_records.specs.declared.kind.Kind.{Kind}
 use Rattle.strip_records.specs.declared.kind.KindFound.the-variants.{Is, Other}
 use Rattle.strip_header.specs.declared.Header.{Header}
 use Rattle.strip_kinds.specs.declared.body.BodyRead.{BodyRead}
+use Rattle.strip_read.specs.declared.read.SectionRead.{SectionRead}
 use Rattle.strip_read.proofs.Cleared.{size-ok}
+
+-- what is known by the case is known by document 01's number
+pub numbered : {B : Type 0} {r w : SectionRead} → (r ≡ w) × B → (r ≡ w) × (B × (sectionByNumber (r .answer) ≡ sectionByNumber (w .answer)))
+numbered h = (h .0, (h .1, ap (λ (x : SectionRead). sectionByNumber (x .answer)) (h .0)))
 
 module _ (order : ByteOrder) (s : List ℕ) where
   module _ (p : ℕ) (h : Header) (e : h ≡ headerTaken order s p) where

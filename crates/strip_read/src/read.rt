@@ -4,7 +4,7 @@ use core::cursor::Place;
 use core::error::Refusal;
 use core_checks::checks::Parsed;
 pub use strip_header::Section;
-pub use strip_kinds::body::BodyRead;
+use strip_kinds::body::BodyRead;
 use strip_kinds::body::read_kind;
 use strip_records::kind::Kind;
 use strip_records::kind::KindFound;
@@ -13,6 +13,7 @@ use strip_records::record::blank_record;
 ghost use mathlib.Core.Path.{_≡_};
 ghost use Prim.Native.Nat.{_+_, _≤_};
 ghost use lib.ListN.{length};
+ghost use Rattle.strip_header.specs.Header.{sectionByNumber};
 ghost use Rattle.strip_records.specs.Whole.{lists, Full};
 ghost use Rattle.strip_read.specs.Read.{refusedWith, endedWith, passedWith, finished, readAt, listsAt, readSection, listsAfter};
 
@@ -121,6 +122,7 @@ pub fn read_section(
 ) -> SectionRead
     ensures { λ r. ⌜ r ≡ readSection order (now («data» .entry)) place (lists (now (quads .entry)) (now (units .entry)) (now (lines .entry)) (now (frames .entry))) ⌝ }
     ensures { λ _. ⌜ lists (now (quads .exit)) (now (units .exit)) (now (lines .exit)) (now (frames .exit)) ≡ listsAfter order (now («data» .entry)) place (lists (now (quads .entry)) (now (units .entry)) (now (lines .entry)) (now (frames .entry))) ⌝ }
+    ensures { λ r. ⌜ sectionByNumber (r .answer) ≡ sectionByNumber (readSection order (now («data» .entry)) place (lists (now (quads .entry)) (now (units .entry)) (now (lines .entry)) (now (frames .entry))) .answer) ⌝ }
 {
     let p = strip_header::read_start(
         data.len(),

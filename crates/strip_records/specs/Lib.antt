@@ -1,3 +1,4 @@
 pub mod Kinds
 pub mod Whole
 pub mod Typed
+pub mod Filled

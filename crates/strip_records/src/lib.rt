@@ -1,3 +1,4 @@
-// The kinds of panes, and a record of any of them.
+// The kinds of panes, a record of any of them, and how many numbers of each list it counts.
+pub mod filled;
 pub mod kind;
 pub mod record;

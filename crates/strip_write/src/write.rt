@@ -1,15 +1,15 @@
 // The section write.
-use alignment_fields::AlignmentPane;
+use alignment::AlignmentPane;
 use core::cursor::ByteOrder;
 use core::cursor::Cursor;
 use core::cursor::Place;
 use core_checks::checks;
 use core_checks::checks::Written;
 use core_write::writer;
+use pane::Pane;
 use pane_checks::checks::names_checked;
 use pane_checks::checks::reserve_checked;
-use pane_read::Pane;
-use picture_fields::PicturePane;
+use picture::PicturePane;
 use strip_records::kind::Kind;
 use strip_records::record::Record;
 use text_box::Label;
@@ -23,7 +23,7 @@ ghost use Prim.Native.Nat.{_+_, _^_, _≤_, _<_};
 ghost use lib.ListN.{length};
 ghost use Rattle.core.specs.Bytes.{bytesOf, Room, Put};
 ghost use Rattle.core.specs.Taken.{start};
-ghost use Rattle.core_checks.specs.Checks.{lengthChecked, sectionChecked, sectionStart, endChecked};
+ghost use Rattle.core_checks.specs.Checks.{lengthChecked, sectionChecked, sectionStart, endChecked, writtenByNumber};
 ghost use Rattle.pane_checks.specs.Checks.{namesChecked, reserveChecked};
 ghost use Rattle.text_box_parts.specs.Parts.{labelPart};
 ghost use Rattle.text_box_checks.specs.Checks.{labelLengthChecked, labelNameChecked};
@@ -148,7 +148,7 @@ pub fn write_txt1(
     ensures { λ a. ⌜ a ≡ writeAnswer (whole (txt1 base own) [] (now (units .entry)) (now (lines .entry)) [] (now (label .entry))) (length (now (out .entry))) place ⌝ }
     ensures { λ _. ⌜ now (out .exit) ≡ writeOutput order (whole (txt1 base own) [] (now (units .entry)) (now (lines .entry)) [] (now (label .entry))) (now (out .entry)) place ⌝ }
 {
-    text_box::typed_text_box(own);
+    text_box_read::typed_text_box(own);
     let length = out.len();
     let name = own.label;
     let p = labelled_checked(base, name, label, length, place);
@@ -157,7 +157,7 @@ pub fn write_txt1(
         Place::Refused(why) => Written::Refused(why),
         Place::At(_) => {
             let body = place + 8;
-            let n = 76 + text_box::text_box_length(body, own, units, lines, label);
+            let n = 76 + text_box_write::write::text_box_length(body, own, units, lines, label);
             let p = end_checked(p, n, length, place);
             match p {
                 Place::Refused(why) => Written::Refused(why),
@@ -197,12 +197,12 @@ pub fn write_wnd1(
 {
     let length = out.len();
     let p = base_checked(base, length, place);
-    let p = window::window_checked(p, quads, frames);
+    let p = window_write::write::window_checked(p, quads, frames);
     match p {
         Place::Refused(why) => Written::Refused(why),
         Place::At(_) => {
             let body = place + 8;
-            let n = 76 + window::window_length(body, quads.len(), frames.len());
+            let n = 76 + window_write::write::window_length(body, quads.len(), frames.len());
             let p = end_checked(p, n, length, place);
             match p {
                 Place::Refused(why) => Written::Refused(why),
@@ -257,6 +257,7 @@ pub fn write_section(
 ) -> Written
     ensures { λ a. ⌜ a ≡ writeAnswer (whole r (now (quads .entry)) (now (units .entry)) (now (lines .entry)) (now (frames .entry)) (now (label .entry))) (length (now (out .entry))) place ⌝ }
     ensures { λ _. ⌜ now (out .exit) ≡ writeOutput order (whole r (now (quads .entry)) (now (units .entry)) (now (lines .entry)) (now (frames .entry)) (now (label .entry))) (now (out .entry)) place ⌝ }
+    ensures { λ a. ⌜ writtenByNumber a ≡ writtenByNumber (writeAnswer (whole r (now (quads .entry)) (now (units .entry)) (now (lines .entry)) (now (frames .entry)) (now (label .entry))) (length (now (out .entry))) place) ⌝ }
 {
     let kind = r.kind;
     match kind {

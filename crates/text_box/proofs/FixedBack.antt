@@ -28,15 +28,15 @@ use Rattle.text_box_fixed.specs.declared.fixed.ShadowTaken.{ShadowTaken}
 -- ---- lengths
 
 module _ (order : ByteOrder) (x : TextBoxPane) where
-  length-indices : length (encodeIndices order x) ≡ 8
+  pub length-indices : length (encodeIndices order x) ≡ 8
   unfolding encodeIndices
   length-indices = simp (length-append, length-bytes)
 
-  length-style : length (encodeStyle order x) ≡ 8
+  pub length-style : length (encodeStyle order x) ≡ 8
   unfolding encodeStyle
   length-style = simp (length-append, length-bytes)
 
-  length-font : (t l : ℕ) → length (encodeFont order x t l) ≡ 32
+  pub length-font : (t l : ℕ) → length (encodeFont order x t l) ≡ 32
   unfolding encodeFont
   length-font t l = simp (length-append, length-bytes, length-vector2, length-color)
 

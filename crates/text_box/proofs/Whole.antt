@@ -42,7 +42,7 @@ length-lines : (order : ByteOrder) (at : ℕ) (table : Part) → length (encodeL
 length-lines order at absent = refl
 length-lines order at (present l) = simp (length-append, length-replicate, length-bytes, length-all, length-column)
 
-length-parts : (order : ByteOrder) (body : ℕ) (x : TextBoxPane) (found name table : Part)
+pub length-parts : (order : ByteOrder) (body : ℕ) (x : TextBoxPane) (found name table : Part)
     → length (partsEncoded order body x found name table) ≡ partsLength body found name table
 length-parts order body x found name table =
     simp (length-append, length-fixed, length-text, length-label, length-lines)

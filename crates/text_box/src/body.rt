@@ -15,10 +15,10 @@ ghost use mathlib.Core.Path.{_≡_};
 ghost use Prim.Native.Nat.{_+_, _^_, _≤_, _<_};
 ghost use lib.ListN.{length};
 ghost use Rattle.core.specs.Bytes.{Room, Put};
-ghost use Rattle.core_checks.specs.Checks.{endChecked};
+ghost use Rattle.core_checks.specs.Checks.{endChecked, parsedByNumber, writtenByNumber};
 ghost use Rattle.pane_read.specs.Pane.{Sound};
 ghost use Rattle.text_box_write.specs.Written.{Small, textBoxLength};
-ghost use Rattle.text_box.specs.Body.{Blank, textBoxStart, Reads, encodeBody, textBoxWriteChecked, textBoxWritten, textBoxOutput};
+ghost use Rattle.text_box.specs.Body.{Blank, textBoxRead, textBoxStart, Reads, encodeBody, textBoxWriteChecked, textBoxWritten, textBoxOutput};
 
 // What a body read gives: its answer, and the text box, blank where it was refused.
 pub struct TextBoxParsed {
@@ -81,6 +81,7 @@ pub fn parse(
     lines: &mut [u32],
 ) -> TextBoxParsed
     ensures { λ r. ⌜ Reads order (now («data» .entry)) (textBoxStart (length (now («data» .entry))) (length (now (units .entry))) (length (now (lines .entry))) place) place (now (units .entry)) (now (lines .entry)) r (now (units .exit)) (now (lines .exit)) ⌝ }
+    ensures { λ r. ⌜ parsedByNumber (r .answer) ≡ parsedByNumber (textBoxRead order (now («data» .entry)) (textBoxStart (length (now («data» .entry))) (length (now (units .entry))) (length (now (lines .entry))) place) place .answer) ⌝ }
 {
     let p = core_checks::checks::body_start(data.len(), place);
     let p1 = core_checks::checks::list_checked(p, 2, 32767, units.len());
@@ -168,6 +169,7 @@ pub fn write(
 ) -> Written
     ensures { λ r. ⌜ r ≡ textBoxWritten b x (now (units .entry)) (now (lines .entry)) (now (label .entry)) (length (now (out .entry))) place ⌝ }
     ensures { λ _. ⌜ now (out .exit) ≡ textBoxOutput order b x (now (units .entry)) (now (lines .entry)) (now (label .entry)) (now (out .entry)) place ⌝ }
+    ensures { λ r. ⌜ writtenByNumber r ≡ writtenByNumber (textBoxWritten b x (now (units .entry)) (now (lines .entry)) (now (label .entry)) (length (now (out .entry))) place) ⌝ }
 {
     text_box_read::typed_text_box(x);
     let p = write_checked(b, x, units, lines, label, out.len(), place);

@@ -1,6 +1,5 @@
 // The text box: what is read and written of it beyond the base, and its body calls.
 pub mod body;
-pub mod fixed;
 
 pub use body::parse;
 pub use body::write;
@@ -8,13 +7,6 @@ pub use text_box_caption::caption;
 pub use text_box_parts::Label;
 pub use text_box_parts::LineTable;
 pub use text_box_parts::Text;
-pub use text_box_parts::parts;
-pub use text_box_parts::units;
 pub use text_box_read::FontMeasure;
 pub use text_box_read::TextBoxPane;
-pub use text_box_read::TextBoxTaken;
 pub use text_box_read::blank_text_box;
-pub use text_box_read::measure_text_box;
-pub use text_box_read::typed_text_box;
-pub use text_box_write::write::put_text_box;
-pub use text_box_write::write::text_box_length;

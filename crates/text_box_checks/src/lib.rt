@@ -10,8 +10,9 @@ use text_box_parts::Text;
 use text_box_read::TextBoxPane;
 use utf16::Utf16;
 ghost use mathlib.Core.Path.{_≡_};
+ghost use Rattle.utf16.specs.Utf16.{utf16Of};
 ghost use Rattle.text_box_parts.specs.Parts.{textPart, labelPart, linePart};
-ghost use Rattle.text_box_checks.specs.Checks.{labelChecked, labelLengthChecked, labelBad, labelNameChecked, linesChecked, unitsBad, bitBad, utf16Checked, textBoxChecked};
+ghost use Rattle.text_box_checks.specs.Checks.{labelChecked, labelLengthChecked, labelBad, labelNameChecked, linesChecked, unitsBad, bitBad, faultChecked, utf16Checked, textBoxChecked};
 
 // 7, of a label that was read.
 pub fn label_checked(p: Place, data: &[u8], label: Label) -> Place
@@ -57,12 +58,17 @@ fn label_bad(label: Label, bytes: &[u8]) -> bool
     }
 }
 
-// 9
+// 9. The bytes are not looked at where the run was refused before: the label may be of any length then.
 pub fn label_name_checked(p: Place, label: Label, bytes: &[u8]) -> Place
     ensures { λ r. ⌜ r ≡ labelNameChecked p (labelPart label (now (bytes .entry))) ⌝ }
 {
-    let bad = label_bad(label, bytes);
-    cursor::stop_if(p, bad, Refusal::BadName { which: 3 })
+    match p {
+        Place::At(c) => {
+            let bad = label_bad(label, bytes);
+            cursor::stop_if(Place::At(c), bad, Refusal::BadName { which: 3 })
+        }
+        Place::Refused(why) => Place::Refused(why),
+    }
 }
 
 // 11
@@ -93,21 +99,31 @@ fn bit_bad(table: LineTable, line: bool) -> bool
     }
 }
 
+// 14 of a text that is present. The units are not looked at where the run was refused before: there may be any number then.
+fn fault_checked(p: Place, units: &[u16]) -> Place
+    ensures { λ r. ⌜ r ≡ faultChecked p (utf16Of (now (units .entry))) ⌝ }
+{
+    match p {
+        Place::At(c) => {
+            let found = utf16::validate(units);
+            match found {
+                Utf16::WellFormed => Place::At(c),
+                Utf16::Unpaired { before } => {
+                    Place::Refused(Refusal::IllFormedUtf16 { units: before })
+                }
+            }
+        }
+        Place::Refused(why) => Place::Refused(why),
+    }
+}
+
 // 14
 fn utf16_checked(p: Place, text: Text, units: &[u16]) -> Place
     ensures { λ r. ⌜ r ≡ utf16Checked p (textPart text (now (units .entry))) ⌝ }
 {
     match text {
         Text::Absent => p,
-        Text::Present => {
-            let found = utf16::validate(units);
-            match found {
-                Utf16::WellFormed => p,
-                Utf16::Unpaired { before } => {
-                    cursor::stop_if(p, true, Refusal::IllFormedUtf16 { units: before })
-                }
-            }
-        }
+        Text::Present => fault_checked(p, units),
     }
 }
 

@@ -1,4 +1,4 @@
--- The four lent lists in the proofs by hand: at lifetimes 1 to 4 of a function that has five.
+-- The four lent lists in the proof by hand of `Walk::next`: at lifetimes 2 to 5 of its six.
 use mathlib.Core.Path.{_≡_}
 use Prim.Native.Nat.{ℕ}
 use mathlib.Core.List.{List, [], _∷_}
@@ -16,8 +16,8 @@ use denote.Slice.{sliceVal, sliceTy, MutSlice, Room, finally}
 use Rattle.strip_records.specs.Whole.{Lists, lists}
 
 -- the types of quads, units, lines and frames
-abbrev pub listTypes : Lfts 5 → List RattleType
-listTypes κs = MutSlice (named 1) (κs .1 .0) u32 ∷ MutSlice (named 2) (κs .1 .1 .0) u16 ∷ MutSlice (named 3) (κs .1 .1 .1 .0) u32 ∷ MutSlice (named 4) (κs .1 .1 .1 .1 .0) u16 ∷ []
+abbrev pub listTypes : Lfts 6 → List RattleType
+listTypes κs = MutSlice (named 2) (κs .1 .1 .0) u32 ∷ MutSlice (named 3) (κs .1 .1 .1 .0) u16 ∷ MutSlice (named 4) (κs .1 .1 .1 .1 .0) u32 ∷ MutSlice (named 5) (κs .1 .1 .1 .1 .1 .0) u16 ∷ []
 
 -- the four of them, as they are passed
 abbrev pub Lent : Type 0
@@ -48,16 +48,13 @@ AsLong ls zs = (length (zs .0) ≡ length (now (ls .0))) × ((length (zs .1 .0) 
 abbrev pub Rooms : Lent → Type 0
 Rooms ls = Room u32 (length (now (ls .0))) × (Room u16 (length (now (ls .1 .0))) × (Room u32 (length (now (ls .1 .1 .0))) × Room u16 (length (now (ls .1 .1 .1 .0)))))
 
--- the tokens: of 'a, of the lists' lifetimes, of all five
-module _ {M : Type 1} {𝓤 : URA M} (κs : Lfts 5) (qs : Shares 5) where
-  abbrev pub token : Item 𝓤
-  token = ‵ (flft (κs .0) (qs .0)) ⊛ ‵ ftrue
-
-  abbrev pub list-tokens : Item 𝓤
-  list-tokens = ‵ (flft (κs .1 .0) (qs .1 .0)) ⊛ ‵ (flft (κs .1 .1 .0) (qs .1 .1 .0)) ⊛ ‵ (flft (κs .1 .1 .1 .0) (qs .1 .1 .1 .0)) ⊛ ‵ (flft (κs .1 .1 .1 .1 .0) (qs .1 .1 .1 .1 .0)) ⊛ ‵ ftrue
+-- the tokens: of the lifetimes that the section read has, which are all but the first; of all six
+module _ {M : Type 1} {𝓤 : URA M} (κs : Lfts 6) (qs : Shares 6) where
+  abbrev pub read-tokens : Item 𝓤
+  read-tokens = ‵ (flft (κs .1 .0) (qs .1 .0)) ⊛ ‵ (flft (κs .1 .1 .0) (qs .1 .1 .0)) ⊛ ‵ (flft (κs .1 .1 .1 .0) (qs .1 .1 .1 .0)) ⊛ ‵ (flft (κs .1 .1 .1 .1 .0) (qs .1 .1 .1 .1 .0)) ⊛ ‵ (flft (κs .1 .1 .1 .1 .1 .0) (qs .1 .1 .1 .1 .1 .0)) ⊛ ‵ ftrue
 
   abbrev pub tokens : Item 𝓤
-  tokens = ‵ (flft (κs .0) (qs .0)) ⊛ list-tokens
+  tokens = ‵ (flft (κs .0) (qs .0)) ⊛ read-tokens
 
 -- what says their last lists
 module _ {M : Type 1} {𝓤 : URA M} (ls : Lent) (zs : Lasts) where
@@ -70,9 +67,9 @@ valued τ = local τ valueLocal
 
 abbrev pub list-locals : List Local → List Local
 list-locals more =
-    valued (sliceTy (tyRef (named 1) mut (tyInt w32))) ∷ valued (sliceTy (tyRef (named 2) mut (tyInt w16))) ∷ valued (sliceTy (tyRef (named 3) mut (tyInt w32))) ∷ valued (sliceTy (tyRef (named 4) mut (tyInt w16))) ∷ more
+    valued (sliceTy (tyRef (named 2) mut (tyInt w32))) ∷ valued (sliceTy (tyRef (named 3) mut (tyInt w16))) ∷ valued (sliceTy (tyRef (named 4) mut (tyInt w32))) ∷ valued (sliceTy (tyRef (named 5) mut (tyInt w16))) ∷ more
 
-abbrev pub lent-again : List Local
-lent-again =
+abbrev pub lent-again : List Local → List Local
+lent-again more =
     valued (tyRef erased mut (tyInt w32)) ∷ valued (sliceTy (tyRef erased mut (tyInt w32))) ∷ valued (tyRef erased mut (tyInt w16)) ∷ valued (sliceTy (tyRef erased mut (tyInt w16)))
-    ∷ valued (tyRef erased mut (tyInt w32)) ∷ valued (sliceTy (tyRef erased mut (tyInt w32))) ∷ valued (tyRef erased mut (tyInt w16)) ∷ valued (sliceTy (tyRef erased mut (tyInt w16))) ∷ []
+    ∷ valued (tyRef erased mut (tyInt w32)) ∷ valued (sliceTy (tyRef erased mut (tyInt w32))) ∷ valued (tyRef erased mut (tyInt w16)) ∷ valued (sliceTy (tyRef erased mut (tyInt w16))) ∷ more

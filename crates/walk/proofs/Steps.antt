@@ -28,8 +28,10 @@ use Rattle.strip_records.specs.declared.kind.KindFound.the-variants.{Is, Other}
 use Rattle.strip_records.specs.declared.record.Record.{Record}
 use Rattle.strip_read.specs.declared.read.SectionRead.{SectionRead}
 use Rattle.strip_read.proofs.Cleared.{size-ok, read-started}
-use Rattle.walk.specs.Walk.{placeAfter, stepAt}
+use denote.Ref.{now}
+use Rattle.walk.specs.Walk.{placeAfter, stepAt, movedOn}
 use Rattle.walk.specs.declared.Step.{Step}
+use Rattle.walk.specs.declared.Walk.{Walk}
 
 abbrev stepOf : SectionRead → ℕ → Step
 stepOf r n = record { answer = r .answer; «record» = r .«record»; place = n }
@@ -98,9 +100,20 @@ step-moved order s p l =
     or-moved (length s) p _ _ (λ c g. end-moved (length s) p (eqb p (length s)) _ (at-moved order s p (read-started (length s) p l c g .0 .within)))
 
 -- so what is left of the strip is a measure of a loop that walks
+less : (n p q : ℕ) → p < q → Moved n p q → n - q < n - p
+less n p q g (inl k) = omega (arith, g, k)
+less n p q g (inr (k, m)) = omega (arith, g, k, m)
+
 pub step-less : (order : ByteOrder) (s : List ℕ) (p : ℕ) (l : Lists) (r : Step) → r ≡ stepAt order s p l → p < r .place → length s - r .place < length s - p
-step-less order s p l r e h = less (r .place) h (subst (λ (x : Step). Moved (length s) p (x .place)) (sym e) (step-moved order s p l))
-  where
-    less : (q : ℕ) → p < q → Moved (length s) p q → length s - q < length s - p
-    less q g (inl k) = omega (arith, g, k)
-    less q g (inr (k, m)) = omega (arith, g, k, m)
+step-less order s p l r e h = less (length s) p (r .place) h (subst (λ (x : Step). Moved (length s) p (x .place)) (sym e) (step-moved order s p l))
+
+-- the same of a loop over `Walk::next`, which keeps its walk: it is moved on to the step's place, over the same strip
+pub moved-place : (order : ByteOrder) (w : Walk) (l : Lists) → movedOn order w l .place ≡ stepAt order (now (w .«data»)) (w .place) l .place
+unfolding movedOn stepAt
+moved-place order w l = refl
+
+pub next-less : (order : ByteOrder) (w v : Walk) (l : Lists) → v ≡ movedOn order w l → w .place < v .place
+    → length (now (w .«data»)) - v .place < length (now (w .«data»)) - w .place
+next-less order w v l e h =
+    let k : v .place ≡ stepAt order (now (w .«data»)) (w .place) l .place = ap (λ (x : Walk). x .place) e ∙ moved-place order w l in
+    less (length (now (w .«data»))) (w .place) (v .place) h (rw k (step-moved order (now (w .«data»)) (w .place) l))

@@ -1,11 +1,13 @@
 // The walk over a strip keeps the strip's bytes with its next place.
 use core::cursor::ByteOrder;
-use strip_header::Section;
-use strip_records::record::Record;
+use strip::read::Section;
+use strip::read::SectionRead;
+use strip::record::Record;
 ghost use mathlib.Core.Path.{_≡_};
+ghost use Rattle.strip_header.specs.Header.{sectionByNumber};
 ghost use Rattle.strip_records.specs.Whole.{lists};
-ghost use Rattle.strip_read.specs.Read.{listsAfter};
-ghost use Rattle.walk.specs.Walk.{placeAfter, stepAt};
+ghost use Rattle.strip_read.specs.Read.{readSection, listsAfter};
+ghost use Rattle.walk.specs.Walk.{placeAfter, stepAt, movedOn};
 
 pub struct Walk<'a> {
     pub data: &'a [u8],
@@ -30,27 +32,12 @@ fn place_after(place: usize, answer: Section) -> usize
     }
 }
 
-// The work, on a plain slice and a number. The walk's fields come first, in their order.
-fn step_at<'a, 'b, 'c, 'd, 'e>(
-    data: &'a [u8],
-    place: usize,
-    order: ByteOrder,
-    quads: &'b mut [u32],
-    units: &'c mut [u16],
-    lines: &'d mut [u32],
-    frames: &'e mut [u16],
-) -> Step
-    ensures { λ r. ⌜ (r ≡ stepAt order (now («data» .entry)) place (lists (now (quads .entry)) (now (units .entry)) (now (lines .entry)) (now (frames .entry)))) × (lists (now (quads .exit)) (now (units .exit)) (now (lines .exit)) (now (frames .exit)) ≡ listsAfter order (now («data» .entry)) place (lists (now (quads .entry)) (now (units .entry)) (now (lines .entry)) (now (frames .entry)))) ⌝ }
+// The place that a section read at a place leaves the walk at.
+fn place_of(place: usize, read: SectionRead) -> usize
+    ensures { λ r. ⌜ r ≡ placeAfter place (read .answer) ⌝ }
 {
-    let read = strip_read::read::read_section(order, data, place, quads, units, lines, frames);
     let answer = read.answer;
-    let record = read.record;
-    let next = place_after(place, answer);
-    Step {
-        answer,
-        record,
-        place: next,
-    }
+    place_after(place, answer)
 }
 
 impl<'a> Walk<'a> {
@@ -61,32 +48,43 @@ impl<'a> Walk<'a> {
         Walk { data, place }
     }
 
-    // The section at the walk's place, and the place of the next.
-    pub fn next<'b, 'c, 'd, 'e>(
-        self,
+    // The section at the walk's place. The walk moves on to the next; it stays at the end, and where the read is refused.
+    pub fn next<'s, 'b, 'c, 'd, 'e>(
+        &'s mut self,
         order: ByteOrder,
         quads: &'b mut [u32],
         units: &'c mut [u16],
         lines: &'d mut [u32],
         frames: &'e mut [u16],
-    ) -> Step
-        ensures { λ r. ⌜ (r ≡ stepAt order (now (self .entry .«data»)) (self .entry .place) (lists (now (quads .entry)) (now (units .entry)) (now (lines .entry)) (now (frames .entry)))) × (lists (now (quads .exit)) (now (units .exit)) (now (lines .exit)) (now (frames .exit)) ≡ listsAfter order (now (self .entry .«data»)) (self .entry .place) (lists (now (quads .entry)) (now (units .entry)) (now (lines .entry)) (now (frames .entry)))) ⌝ }
+    ) -> SectionRead
+        ensures { λ r. ⌜ (r ≡ readSection order (now (now (self .entry) .«data»)) (now (self .entry) .place) (lists (now (quads .entry)) (now (units .entry)) (now (lines .entry)) (now (frames .entry)))) × (lists (now (quads .exit)) (now (units .exit)) (now (lines .exit)) (now (frames .exit)) ≡ listsAfter order (now (now (self .entry) .«data»)) (now (self .entry) .place) (lists (now (quads .entry)) (now (units .entry)) (now (lines .entry)) (now (frames .entry)))) × (now (self .exit) ≡ movedOn order (now (self .entry)) (lists (now (quads .entry)) (now (units .entry)) (now (lines .entry)) (now (frames .entry)))) × (sectionByNumber (r .answer) ≡ sectionByNumber (readSection order (now (now (self .entry) .«data»)) (now (self .entry) .place) (lists (now (quads .entry)) (now (units .entry)) (now (lines .entry)) (now (frames .entry))) .answer)) ⌝ }
     {
-        step_at(self.data, self.place, order, quads, units, lines, frames)
+        let place = self.place;
+        let read = strip::read::read_section(order, self.data, place, quads, units, lines, frames);
+        self.place = place_of(place, read);
+        read
     }
 }
 
 // The step of a walk for a caller that holds the strip and the place itself.
-pub fn section_after<'a, 'b, 'c, 'd, 'e>(
+pub fn section_after(
     order: ByteOrder,
-    data: &'a [u8],
+    data: &[u8],
     place: usize,
-    quads: &'b mut [u32],
-    units: &'c mut [u16],
-    lines: &'d mut [u32],
-    frames: &'e mut [u16],
+    quads: &mut [u32],
+    units: &mut [u16],
+    lines: &mut [u32],
+    frames: &mut [u16],
 ) -> Step
-    ensures { λ r. ⌜ (r ≡ stepAt order (now («data» .entry)) place (lists (now (quads .entry)) (now (units .entry)) (now (lines .entry)) (now (frames .entry)))) × (lists (now (quads .exit)) (now (units .exit)) (now (lines .exit)) (now (frames .exit)) ≡ listsAfter order (now («data» .entry)) place (lists (now (quads .entry)) (now (units .entry)) (now (lines .entry)) (now (frames .entry)))) ⌝ }
+    ensures { λ r. ⌜ (r ≡ stepAt order (now («data» .entry)) place (lists (now (quads .entry)) (now (units .entry)) (now (lines .entry)) (now (frames .entry)))) × (lists (now (quads .exit)) (now (units .exit)) (now (lines .exit)) (now (frames .exit)) ≡ listsAfter order (now («data» .entry)) place (lists (now (quads .entry)) (now (units .entry)) (now (lines .entry)) (now (frames .entry)))) × (sectionByNumber (r .answer) ≡ sectionByNumber (stepAt order (now («data» .entry)) place (lists (now (quads .entry)) (now (units .entry)) (now (lines .entry)) (now (frames .entry))) .answer)) ⌝ }
 {
-    Walk::over(data, place).next(order, quads, units, lines, frames)
+    let read = strip::read::read_section(order, data, place, quads, units, lines, frames);
+    let answer = read.answer;
+    let record = read.record;
+    let next = place_after(place, answer);
+    Step {
+        answer,
+        record,
+        place: next,
+    }
 }

@@ -19,6 +19,7 @@ ghost use mathlib.Core.Path.{_≡_};
 ghost use Prim.Native.Nat.{_^_, _≤_, _<_};
 ghost use lib.ListN.{length};
 ghost use Rattle.core.specs.Bytes.{Room, Put};
+ghost use Rattle.core_checks.specs.Checks.{parsedByNumber, writtenByNumber};
 ghost use Rattle.pane_read.specs.Pane.{Sound};
 ghost use Rattle.window_write.specs.Write.{GoodWindow};
 ghost use Rattle.window.specs.Body.{Blank, windowRead, readQuads, readFrames, windowParsed, parsedQuads, parsedFrames, windowWriteChecked, bodyLength, encodeBody, windowWritten, windowOutput};
@@ -87,6 +88,7 @@ pub fn parse(
     ensures { λ r. ⌜ r ≡ windowParsed order (now («data» .entry)) place (now (quads .entry)) (now (frames .entry)) ⌝ }
     ensures { λ _. ⌜ now (quads .exit) ≡ parsedQuads order (now («data» .entry)) place (now (quads .entry)) (now (frames .entry)) ⌝ }
     ensures { λ _. ⌜ now (frames .exit) ≡ parsedFrames order (now («data» .entry)) place (now (quads .entry)) (now (frames .entry)) ⌝ }
+    ensures { λ r. ⌜ parsedByNumber (r .answer) ≡ parsedByNumber (windowParsed order (now («data» .entry)) place (now (quads .entry)) (now (frames .entry)) .answer) ⌝ }
 {
     let p = checks::body_start(data.len(), place);
     let p = checks::list_checked(p, 1, 2040, quads.len());
@@ -144,6 +146,7 @@ pub fn write(
 ) -> Written
     ensures { λ r. ⌜ r ≡ windowWritten b (now (quads .entry)) (now (frames .entry)) (length (now (out .entry))) place ⌝ }
     ensures { λ _. ⌜ now (out .exit) ≡ windowOutput order b x (now (quads .entry)) (now (frames .entry)) (now (out .entry)) place ⌝ }
+    ensures { λ r. ⌜ writtenByNumber r ≡ writtenByNumber (windowWritten b (now (quads .entry)) (now (frames .entry)) (length (now (out .entry))) place) ⌝ }
 {
     let p = write_checked(b, quads, frames, out.len(), place);
     match p {

@@ -9,11 +9,15 @@ use lib.ListN.{length, take, drop, getD, length-drop, take-append-drop}
 use lib.Seq.{drop-cons, length-take-le}
 use Rattle.core.specs.Bytes.{ordered, bytesOf, bytesOfAll, le}
 use Rattle.core.specs.Taken.{stopIf}
+use Rattle.core_checks.specs.Checks.{countChecked}
+use Rattle.core.specs.declared.error.Refusal.{Refusal}
 use Rattle.core.specs.declared.error.Refusal.the-variants.{BadFlip}
 use Rattle.core.specs.declared.cursor.ByteOrder.{ByteOrder}
+use Rattle.core.specs.declared.cursor.Cursor.{Cursor}
 use Rattle.core.specs.declared.cursor.Place.{Place}
+use Rattle.core.specs.declared.cursor.Place.the-variants.{At, Refused}
 use Rattle.core_write.proofs.Puts.{take-more, all-append, all-one}
-use Rattle.window_write.specs.Write.{flipsChecked, frameOffsets, encodeFrame, encodeFrames}
+use Rattle.window_write.specs.Write.{flipsChecked, windowChecked, frameOffsets, encodeFrame, encodeFrames}
 
 -- ---- a list by pairs
 
@@ -43,6 +47,23 @@ pub flips-turn : (p : Place) (i : ℕ) (l : List ℕ) → i < length l / 2
     → flipsChecked p i (drop (2 * i) l) ≡ flipsChecked (stopIf p (ltb 5 (getD l (2 * i + 1) 0)) (BadFlip i (getD l (2 * i + 1) 0))) (i + 1) (drop (2 * (i + 1)) l)
 unfolding flipsChecked
 flips-turn p i l h = ap (flipsChecked p i) (pair l i h)
+
+-- a run that was refused stays refused, whatever the frames
+flips-stopped : (why : Refusal) (i : ℕ) (l : List ℕ) → Refused why ≡ flipsChecked (Refused why) i l
+unfolding flipsChecked stopIf
+flips-stopped why i [] = refl
+flips-stopped why i (material ∷ []) = refl
+flips-stopped why i (material ∷ flip ∷ l) = flips-stopped why (i + 1) l
+
+-- 11 for the quads, 11 for the frames, and then 12 of a run that goes on, or none of one that was refused
+module _ (p q r : Place) (quads frames : List ℕ) (e : q ≡ countChecked p 1 8 (length quads)) (f : r ≡ countChecked q 4 2 (length frames)) where
+  pub flips-on : (c : Cursor) → r ≡ At c → flipsChecked (At c) 0 frames ≡ windowChecked p quads frames
+  unfolding windowChecked
+  flips-on c h = rw (← h, f, e)
+
+  pub flips-stay : (why : Refusal) → r ≡ Refused why → Refused why ≡ windowChecked p quads frames
+  unfolding windowChecked
+  flips-stay why h = rw (← e, ← f, h) (flips-stopped why 0 frames)
 
 -- ---- offsets
 

@@ -36,13 +36,16 @@ fn flips_checked(start: Place, frames: &[u16]) -> Place
     p
 }
 
-// 11 for the quads, 11 for the frames, 12.
+// 11 for the quads, 11 for the frames, 12. The frames are not looked at where the run was refused before.
 pub fn window_checked(p: Place, quads: &[u32], frames: &[u16]) -> Place
     ensures { λ r. ⌜ r ≡ windowChecked p (now (quads .entry)) (now (frames .entry)) ⌝ }
 {
     let p = checks::count_checked(p, 1, 8, quads.len());
     let p = checks::count_checked(p, 4, 2, frames.len());
-    flips_checked(p, frames)
+    match p {
+        Place::At(c) => flips_checked(Place::At(c), frames),
+        Place::Refused(why) => Place::Refused(why),
+    }
 }
 
 // ---- places

@@ -49,7 +49,7 @@ fn floats(r: &mut Random, count: usize) -> Vec<u32> {
 fn picture(r: &mut Random, w: &mut Whole) {
     fill(r, w, PICTURE_COLORS, 16, 256);
     fill(r, w, PICTURE_MATERIAL, 1, 1 << 16);
-    fill(r, w, PICTURE_QUADS, 1, 256);
+    w.words[PICTURE_QUADS] = r.word();
     fill(r, w, SHAPE_PRESENT, 1, 2);
     fill(r, w, SHAPE_INDEX, 1, 1 << 32);
     let count = small(r);
@@ -70,7 +70,7 @@ fn text_box(r: &mut Random, w: &mut Whole) {
     fill(r, w, LABEL_PRESENT, 1, 2);
     fill(r, w, LABEL_PLACE, 2, 1 << 40);
     fill(r, w, LINES_PRESENT, 1, 2);
-    fill(r, w, LINES_COUNT, 1, 256);
+    w.words[LINES_COUNT] = r.word();
     if w.is(TEXT_PRESENT) {
         let count = if r.once_in(64) { r.below(3000) } else { r.below(12) };
         w.words[TEXT_LENGTH] = (2 * count + r.below(2)) as u64;
@@ -89,10 +89,10 @@ fn window(r: &mut Random, w: &mut Whole) {
     fill(r, w, WINDOW_FLAGS, 2, 2);
     fill(r, w, WINDOW_KIND, 1, 3);
     fill(r, w, NOT_DRAW_CONTENT, 1, 2);
-    fill(r, w, FRAMES_COUNT, 1, 256);
+    w.words[FRAMES_COUNT] = r.word();
     fill(r, w, CONTENT_COLORS, 16, 256);
     fill(r, w, CONTENT_MATERIAL, 1, 1 << 16);
-    fill(r, w, CONTENT_QUADS, 1, 256);
+    w.words[CONTENT_QUADS] = r.word();
     let count = small(r);
     w.quads = floats(r, 8 * count);
     for _ in 0..small(r) {

@@ -19,7 +19,7 @@ same-length c = search needs
 
 returns : tie.Need-returns
 unfolding bodyParsed bodyFinished
-returns c = λ l. rw (← c .before .before .before .before .before .before .parse .ensures) (c .before .before .deliver-ali1 .ensures l)
+returns c = λ l. rw (← c .before .before .before .before .before .before .parse .ensures .0) (c .before .before .deliver-ali1 .ensures l)
 
 pub parse-ali1-spec : {M : Type 1} → statement M
 parse-ali1-spec = tie.close (tie.spec parse-requires deliver-ali1-requires same-length returns)

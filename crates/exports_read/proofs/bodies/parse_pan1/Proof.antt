@@ -19,7 +19,7 @@ same-length c = search needs
 
 returns : tie.Need-returns
 unfolding bodyParsed bodyFinished
-returns c = λ l. rw (← c .before .before .before .before .before .parse .ensures) (c .before .before .deliver-pan1 .ensures l)
+returns c = λ l. rw (← c .before .before .before .before .before .parse .ensures .0) (c .before .before .deliver-pan1 .ensures l)
 
 pub parse-pan1-spec : {M : Type 1} → statement M
 parse-pan1-spec = tie.close (tie.spec parse-requires deliver-pan1-requires same-length returns)

@@ -22,7 +22,7 @@ same-length-2 c = search needs
 
 returns : tie.Need-returns
 unfolding bodyParsed bodyFinished
-returns c = (λ l. rw (← c .before .before .before .before .before .before .before .before .parse .ensures .0) (c .before .before .deliver-pic1 .ensures l), c .before .before .before .before .before .before .before .before .parse .ensures .1)
+returns c = (λ l. rw (← c .before .before .before .before .before .before .before .before .parse .ensures .0) (c .before .before .deliver-pic1 .ensures l), c .before .before .before .before .before .before .before .before .parse .ensures .1 .0)
 
 pub parse-pic1-spec : {M : Type 1} → statement M
 parse-pic1-spec =

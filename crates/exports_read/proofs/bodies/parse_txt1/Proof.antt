@@ -25,7 +25,7 @@ same-length-3 c = search needs
 
 returns : tie.Need-returns
 unfolding bodyParsed bodyFinished
-returns c = (λ l. rw (← c .before .before .before .before .before .before .before .before .before .before .parse .ensures .0) (c .before .before .deliver-txt1 .ensures l), (c .before .before .before .before .before .before .before .before .before .before .parse .ensures .1, c .before .before .before .before .before .before .before .before .before .before .parse .ensures .2))
+returns c = (λ l. rw (← c .before .before .before .before .before .before .before .before .before .before .parse .ensures .0 .0) (c .before .before .deliver-txt1 .ensures l), (c .before .before .before .before .before .before .before .before .before .before .parse .ensures .0 .1, c .before .before .before .before .before .before .before .before .before .before .parse .ensures .0 .2))
 
 pub parse-txt1-spec : {M : Type 1} → statement M
 parse-txt1-spec =

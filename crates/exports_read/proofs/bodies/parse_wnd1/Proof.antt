@@ -25,7 +25,7 @@ same-length-3 c = search needs
 
 returns : tie.Need-returns
 unfolding bodyParsed bodyFinished
-returns c = (λ l. rw (← c .before .before .before .before .before .before .before .before .before .before .parse .ensures .0) (c .before .before .deliver-wnd1 .ensures l), c .before .before .before .before .before .before .before .before .before .before .parse .ensures .1)
+returns c = (λ l. rw (← c .before .before .before .before .before .before .before .before .before .before .parse .ensures .0) (c .before .before .deliver-wnd1 .ensures l), (c .before .before .before .before .before .before .before .before .before .before .parse .ensures .1 .0, c .before .before .before .before .before .before .before .before .before .before .parse .ensures .1 .1 .0))
 
 pub parse-wnd1-spec : {M : Type 1} → statement M
 parse-wnd1-spec =

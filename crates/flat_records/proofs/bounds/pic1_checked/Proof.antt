@@ -17,11 +17,8 @@ below-requires-3 c κs = search needs
 below-requires-4 : tie.Need-below-requires-4
 below-requires-4 c κs = search needs
 
-below-requires-5 : tie.Need-below-requires-5
-below-requires-5 c κs = search needs
-
 returns : tie.Need-returns
-returns c = rw (c .below5 .ensures, c .before .below4 .ensures, c .before .before .below3 .ensures, c .before .before .before .below2 .ensures, c .before .before .before .before .below .ensures)
+returns c = rw (c .below4 .ensures, c .before .below3 .ensures, c .before .before .below2 .ensures, c .before .before .before .below .ensures)
 
 pub pic1-checked-spec : {M : Type 1} → statement M
 pic1-checked-spec =
@@ -31,5 +28,4 @@ pic1-checked-spec =
     below-requires-2
     below-requires-3
     below-requires-4
-    below-requires-5
     returns)

@@ -24,11 +24,8 @@ below-requires-4 c κs = search needs
 below-requires-5 : tie.Need-below-requires-5
 below-requires-5 c κs = search needs
 
-below-requires-6 : tie.Need-below-requires-6
-below-requires-6 c κs = search needs
-
 returns : tie.Need-returns
-returns c = rw (c .below6 .ensures, c .before .below5 .ensures, c .before .before .below4 .ensures, c .before .before .before .below3 .ensures, c .before .before .before .before .below2 .ensures, c .before .before .before .before .before .below .ensures, c .before .before .before .before .before .before .font-checked .ensures)
+returns c = rw (c .below5 .ensures, c .before .below4 .ensures, c .before .before .below3 .ensures, c .before .before .before .below2 .ensures, c .before .before .before .before .below .ensures, c .before .before .before .before .before .font-checked .ensures)
 
 pub txt1-checked-spec : {M : Type 1} → statement M
 txt1-checked-spec =
@@ -40,5 +37,4 @@ txt1-checked-spec =
     below-requires-3
     below-requires-4
     below-requires-5
-    below-requires-6
     returns)

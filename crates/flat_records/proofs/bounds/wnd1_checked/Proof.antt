@@ -23,14 +23,8 @@ below-requires-5 c κs = search needs
 below-requires-6 : tie.Need-below-requires-6
 below-requires-6 c κs = search needs
 
-below-requires-7 : tie.Need-below-requires-7
-below-requires-7 c κs = search needs
-
-below-requires-8 : tie.Need-below-requires-8
-below-requires-8 c κs = search needs
-
 returns : tie.Need-returns
-returns c = rw (c .below8 .ensures, c .before .below7 .ensures, c .before .before .below6 .ensures, c .before .before .before .below5 .ensures, c .before .before .before .before .below4 .ensures, c .before .before .before .before .before .below3 .ensures, c .before .before .before .before .before .before .below2 .ensures, c .before .before .before .before .before .before .before .below .ensures)
+returns c = rw (c .below6 .ensures, c .before .below5 .ensures, c .before .before .below4 .ensures, c .before .before .before .below3 .ensures, c .before .before .before .before .below2 .ensures, c .before .before .before .before .before .below .ensures)
 
 pub wnd1-checked-spec : {M : Type 1} → statement M
 wnd1-checked-spec =
@@ -42,6 +36,4 @@ wnd1-checked-spec =
     below-requires-4
     below-requires-5
     below-requires-6
-    below-requires-7
-    below-requires-8
     returns)

@@ -1,4 +1,5 @@
 use Rattle.flat_write.proofs.Writing.{pan1-body, pic1-body, txt1-body, wnd1-body, ali1-body}
+use Rattle.core_checks.proofs.Checked.{by-case}
 use borrow.Author.Needs.{needs}
 use Rattle.flat_write.proofs.bodies.write.Statement.{statement}
 use Rattle.flat_write.proofs.bodies.write.Tie as tie
@@ -64,31 +65,31 @@ same-length : tie.Need-same-length
 same-length c = search needs
 
 returns : tie.Need-returns
-returns c = pan1-body _ _ _ _ _ _ _ _ _ _ _ _ _ (c .before .before .before .before .before .before .base-of .ensures) (c .before .before .before .before .enum-told .given .1) (c .before .before .write .ensures)
+returns c = pan1-body _ _ _ _ _ _ _ _ _ _ _ _ _ (c .before .before .before .before .before .before .base-of .ensures) (c .before .before .before .before .enum-told .given .1) (by-case (c .before .before .write .ensures))
 
 same-length-2 : tie.Need-same-length-2
 same-length-2 c = search needs
 
 returns-2 : tie.Need-returns-2
-returns-2 c = pic1-body _ _ _ _ _ _ _ _ _ _ _ _ _ (c .before .before .before .before .before .before .before .base-of .ensures) _ (c .before .before .before .before .before .enum-told2 .given .1) (c .before .before .before .before .picture-of .ensures) (c .before .before .write2 .ensures)
+returns-2 c = pic1-body _ _ _ _ _ _ _ _ _ _ _ _ _ (c .before .before .before .before .before .before .before .base-of .ensures) _ (c .before .before .before .before .before .enum-told2 .given .1) (c .before .before .before .before .picture-of .ensures) (by-case (c .before .before .write2 .ensures))
 
 same-length-3 : tie.Need-same-length-3
 same-length-3 c = search needs
 
 returns-3 : tie.Need-returns-3
-returns-3 c = txt1-body _ _ _ _ _ _ _ _ _ _ _ _ _ (c .before .before .before .before .before .before .before .base-of .ensures) _ (c .before .before .before .before .before .enum-told3 .given .1) (c .before .before .before .before .text-box-of .ensures) (c .before .before .write3 .ensures)
+returns-3 c = txt1-body _ _ _ _ _ _ _ _ _ _ _ _ _ (c .before .before .before .before .before .before .before .base-of .ensures) _ (c .before .before .before .before .before .enum-told3 .given .1) (c .before .before .before .before .text-box-of .ensures) (by-case (c .before .before .write3 .ensures))
 
 same-length-4 : tie.Need-same-length-4
 same-length-4 c = search needs
 
 returns-4 : tie.Need-returns-4
-returns-4 c = wnd1-body _ _ _ _ _ _ _ _ _ _ _ _ _ (c .before .before .before .before .before .before .before .base-of .ensures) _ (c .before .before .before .before .before .enum-told4 .given .1) (c .before .before .before .before .window-of .ensures) (c .before .before .write4 .ensures)
+returns-4 c = wnd1-body _ _ _ _ _ _ _ _ _ _ _ _ _ (c .before .before .before .before .before .before .before .base-of .ensures) _ (c .before .before .before .before .before .enum-told4 .given .1) (c .before .before .before .before .window-of .ensures) (by-case (c .before .before .write4 .ensures))
 
 same-length-5 : tie.Need-same-length-5
 same-length-5 c = search needs
 
 returns-5 : tie.Need-returns-5
-returns-5 c = ali1-body _ _ _ _ _ _ _ _ _ _ _ _ _ (c .before .before .before .before .before .before .before .base-of .ensures) _ (c .before .before .before .before .before .enum-told5 .given .1) (c .before .before .before .before .alignment-of .ensures) (c .before .before .write5 .ensures)
+returns-5 c = ali1-body _ _ _ _ _ _ _ _ _ _ _ _ _ (c .before .before .before .before .before .before .before .base-of .ensures) _ (c .before .before .before .before .before .enum-told5 .given .1) (c .before .before .before .before .alignment-of .ensures) (by-case (c .before .before .write5 .ensures))
 
 pub write-spec : {M : Type 1} → statement M
 write-spec =

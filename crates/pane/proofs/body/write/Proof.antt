@@ -1,5 +1,5 @@
 use mathlib.Core.Path.{sym, _∙_}
-use Rattle.core_checks.proofs.Checked.{wrote, not-wrote}
+use Rattle.core_checks.proofs.Checked.{wrote, not-wrote, write-numbered}
 use Rattle.pane.specs.Body.{paneWritten, paneOutput}
 use Rattle.pane.proofs.Cleared.{write-cleared, sound}
 use borrow.Author.Needs.{needs}
@@ -29,12 +29,11 @@ same-length c = search needs
 
 returns : tie.Need-returns
 unfolding paneWritten paneOutput
-returns c =
-    wrote _ _ (sym (c .before .before .before .before .before .before .write-checked .ensures) ∙ c .before .before .before .before .enum-told .given .1) (c .before .before .put-pane .ensures)
+returns c = write-numbered (wrote _ _ (sym (c .before .before .before .before .before .before .write-checked .ensures) ∙ c .before .before .before .before .enum-told .given .1) (c .before .before .put-pane .ensures))
 
 returns-2 : tie.Need-returns-2
 unfolding paneWritten paneOutput
-returns-2 c = not-wrote _ _ _ _ _ (sym (c .before .before .before .write-checked .ensures) ∙ c .before .p .given .1)
+returns-2 c = write-numbered (not-wrote _ _ _ _ _ (sym (c .before .before .before .write-checked .ensures) ∙ c .before .p .given .1))
 
 pub write-spec : {M : Type 1} → statement M
 write-spec =

@@ -1,5 +1,6 @@
 use mathlib.Core.Path.{sym, _∙_}
 use Rattle.picture.proofs.Calls.{start-cleared, parsed, parsed-refused}
+use Rattle.core_checks.proofs.Checked.{read-numbered}
 use borrow.Author.Needs.{needs}
 use Rattle.picture.proofs.body.parse.Statement.{statement}
 use Rattle.picture.proofs.body.parse.Tie as tie
@@ -23,10 +24,14 @@ same-length : tie.Need-same-length
 same-length c = search needs
 
 returns : tie.Need-returns
-returns c = parsed _ _ _ _ _ (sym (c .before .before .before .before .before .before .before .read-start .ensures) ∙ c .before .before .before .before .before .p .given .1) _ _ (c .before .before .read .ensures)
+returns c =
+    let h = parsed _ _ _ _ _ (sym (c .before .before .before .before .before .before .before .read-start .ensures) ∙ c .before .before .before .before .before .p .given .1) _ _ (c .before .before .read .ensures) in
+    (h .0, (h .1, read-numbered (h .0) (λ x. x .answer)))
 
 returns-2 : tie.Need-returns-2
-returns-2 c = parsed-refused _ _ _ _ _ (sym (c .before .before .before .before .read-start .ensures) ∙ c .before .before .p2 .given .1) _ (c .refused .ensures)
+returns-2 c =
+    let h = parsed-refused _ _ _ _ _ (sym (c .before .before .before .before .read-start .ensures) ∙ c .before .before .p2 .given .1) _ (c .refused .ensures) in
+    (h .0, (h .1, read-numbered (h .0) (λ x. x .answer)))
 
 pub parse-spec : {M : Type 1} → statement M
 parse-spec =

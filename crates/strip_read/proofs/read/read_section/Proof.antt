@@ -1,7 +1,7 @@
 use mathlib.Core.Path.{sym, _∙_}
 use Rattle.strip_records.specs.Whole.{lists}
 use Rattle.strip_read.proofs.Cleared.{read-started}
-use Rattle.strip_read.proofs.Steps.{read-refused, read-end, read-on}
+use Rattle.strip_read.proofs.Steps.{numbered, read-refused, read-end, read-on}
 use borrow.Author.Needs.{needs}
 use Rattle.strip_read.proofs.read.read_section.Statement.{statement}
 use Rattle.strip_read.proofs.read.read_section.Tie as tie
@@ -33,12 +33,12 @@ read-at-requires c κs = let (a, f) = read-started _ _ (lists _ _ _ _) _ (sym (c
 returns : tie.Need-returns
 returns c =
     let x = read-refused _ _ _ (lists _ _ _ _) _ (c .before .before .before .before .read-start .ensures) _ (c .before .before .p .given .1) in
-    (c .refused .ensures ∙ x .0, x .1)
+    numbered (c .refused .ensures ∙ x .0, x .1)
 
 returns-2 : tie.Need-returns-2
 returns-2 c =
     let x = read-end _ _ _ (lists _ _ _ _) _ (c .before .before .before .before .read-start .ensures) _ (c .before .before .enum-told .given .1) (c .before .if1 .taken) in
-    (c .ended .ensures ∙ x .0, x .1)
+    numbered (c .ended .ensures ∙ x .0, x .1)
 
 same-length : tie.Need-same-length
 same-length c = search needs
@@ -55,7 +55,7 @@ same-length-4 c = search needs
 returns-3 : tie.Need-returns-3
 returns-3 c =
     let x = read-on _ _ _ (lists _ _ _ _) _ (c .before .before .before .before .before .before .before .before .before .before .before .before .before .before .before .before .read-start .ensures) _ (c .before .before .before .before .before .before .before .before .before .before .before .before .before .before .enum-told .given .1) (c .before .before .before .before .before .before .before .before .before .before .before .before .before .if1 .left) in
-    (c .before .before .before .before .before .before .before .before .read-at .ensures .0 ∙ x .0, c .before .before .before .before .before .before .before .before .read-at .ensures .1 ∙ x .1)
+    numbered (c .before .before .before .before .before .before .before .before .read-at .ensures .0 ∙ x .0, c .before .before .before .before .before .before .before .before .read-at .ensures .1 ∙ x .1)
 
 pub read-section-spec : {M : Type 1} → statement M
 read-section-spec =

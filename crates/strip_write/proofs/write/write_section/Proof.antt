@@ -1,4 +1,5 @@
 use Rattle.strip_write.proofs.WriteKinds.{alone, pan1-alone, pic1-alone, txt1-alone, wnd1-alone, ali1-alone}
+use Rattle.core_checks.proofs.Checked.{write-numbered}
 use borrow.Author.Needs.{needs}
 use Rattle.strip_write.proofs.write.write_section.Statement.{statement}
 use Rattle.strip_write.proofs.write.write_section.Tie as tie
@@ -44,31 +45,31 @@ same-length : tie.Need-same-length
 same-length c = search needs
 
 returns : tie.Need-returns
-returns c = alone _ _ _ _ _ (pan1-alone _ _ _ (c .before .before .before .before .before .before .before .before .before .before .before .before .args .r) _ _ _ _ _ (c .before .before .before .before .enum-told .given .1)) (c .before .before .write-pan1 .ensures)
+returns c = write-numbered (alone _ _ _ _ _ (pan1-alone _ _ _ (c .before .before .before .before .before .before .before .before .before .before .before .before .args .r) _ _ _ _ _ (c .before .before .before .before .enum-told .given .1)) (c .before .before .write-pan1 .ensures))
 
 same-length-2 : tie.Need-same-length-2
 same-length-2 c = search needs
 
 returns-2 : tie.Need-returns-2
-returns-2 c = alone _ _ _ _ _ (pic1-alone _ _ _ (c .before .before .before .before .before .before .before .before .before .before .before .before .args .r) _ _ _ _ _ (c .before .before .before .before .enum-told2 .given .1)) (c .before .before .write-pic1 .ensures)
+returns-2 c = write-numbered (alone _ _ _ _ _ (pic1-alone _ _ _ (c .before .before .before .before .before .before .before .before .before .before .before .before .args .r) _ _ _ _ _ (c .before .before .before .before .enum-told2 .given .1)) (c .before .before .write-pic1 .ensures))
 
 same-length-3 : tie.Need-same-length-3
 same-length-3 c = search needs
 
 returns-3 : tie.Need-returns-3
-returns-3 c = alone _ _ _ _ _ (txt1-alone _ _ _ (c .before .before .before .before .before .before .before .before .before .before .before .before .args .r) _ _ _ _ _ (c .before .before .before .before .enum-told3 .given .1)) (c .before .before .write-txt1 .ensures)
+returns-3 c = write-numbered (alone _ _ _ _ _ (txt1-alone _ _ _ (c .before .before .before .before .before .before .before .before .before .before .before .before .args .r) _ _ _ _ _ (c .before .before .before .before .enum-told3 .given .1)) (c .before .before .write-txt1 .ensures))
 
 same-length-4 : tie.Need-same-length-4
 same-length-4 c = search needs
 
 returns-4 : tie.Need-returns-4
-returns-4 c = alone _ _ _ _ _ (wnd1-alone _ _ _ (c .before .before .before .before .before .before .before .before .before .before .before .before .args .r) _ _ _ _ _ (c .before .before .before .before .enum-told4 .given .1)) (c .before .before .write-wnd1 .ensures)
+returns-4 c = write-numbered (alone _ _ _ _ _ (wnd1-alone _ _ _ (c .before .before .before .before .before .before .before .before .before .before .before .before .args .r) _ _ _ _ _ (c .before .before .before .before .enum-told4 .given .1)) (c .before .before .write-wnd1 .ensures))
 
 same-length-5 : tie.Need-same-length-5
 same-length-5 c = search needs
 
 returns-5 : tie.Need-returns-5
-returns-5 c = alone _ _ _ _ _ (ali1-alone _ _ _ (c .before .before .before .before .before .before .before .before .before .before .before .before .args .r) _ _ _ _ _ (c .before .before .before .before .enum-told5 .given .1)) (c .before .before .write-ali1 .ensures)
+returns-5 c = write-numbered (alone _ _ _ _ _ (ali1-alone _ _ _ (c .before .before .before .before .before .before .before .before .before .before .before .before .args .r) _ _ _ _ _ (c .before .before .before .before .enum-told5 .given .1)) (c .before .before .write-ali1 .ensures))
 
 pub write-section-spec : {M : Type 1} → statement M
 write-section-spec =

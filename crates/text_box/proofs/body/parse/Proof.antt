@@ -1,4 +1,5 @@
 use Rattle.text_box.proofs.Calls.{start-ok, start-reads, start-refused}
+use Rattle.core_checks.proofs.Checked.{read-numbered}
 use borrow.Author.Needs.{needs}
 use Rattle.text_box.proofs.body.parse.Statement.{statement}
 use Rattle.text_box.proofs.body.parse.Tie as tie
@@ -31,10 +32,14 @@ same-length-2 : tie.Need-same-length-2
 same-length-2 c = search needs
 
 returns : tie.Need-returns
-returns c = start-reads _ _ _ _ _ _ _ (c .before .before .before .before .before .before .before .before .before .before .before .before .body-start .ensures) (c .before .before .before .before .before .before .before .before .before .before .before .list-checked .ensures) (c .before .before .before .before .before .before .before .before .before .before .list-checked2 .ensures) _ _ _ (c .before .before .before .before .before .before .before .before .p2 .given .1) _ _ _ _ _ (c .before .before .before .before .read .ensures)
+returns c =
+    let h = start-reads _ _ _ _ _ _ _ (c .before .before .before .before .before .before .before .before .before .before .before .before .body-start .ensures) (c .before .before .before .before .before .before .before .before .before .before .before .list-checked .ensures) (c .before .before .before .before .before .before .before .before .before .before .list-checked2 .ensures) _ _ _ (c .before .before .before .before .before .before .before .before .p2 .given .1) _ _ _ _ _ (c .before .before .before .before .read .ensures) in
+    (h, read-numbered (h .0) (λ x. x .answer))
 
 returns-2 : tie.Need-returns-2
-returns-2 c = start-refused _ _ _ _ _ _ _ (c .before .before .before .before .before .before .body-start .ensures) (c .before .before .before .before .before .list-checked .ensures) (c .before .before .before .before .list-checked2 .ensures) _ _ _ (c .before .before .p22 .given .1) _ (c .refused .ensures) _ _
+returns-2 c =
+    let h = start-refused _ _ _ _ _ _ _ (c .before .before .before .before .before .before .body-start .ensures) (c .before .before .before .before .before .list-checked .ensures) (c .before .before .before .before .list-checked2 .ensures) _ _ _ (c .before .before .p22 .given .1) _ (c .refused .ensures) _ _ in
+    (h, read-numbered (h .0) (λ x. x .answer))
 
 pub parse-spec : {M : Type 1} → statement M
 parse-spec =

@@ -1,4 +1,5 @@
 use Rattle.window.proofs.Calls.{started, parsed, parsed-refused}
+use Rattle.core_checks.proofs.Checked.{read-numbered}
 use borrow.Author.Needs.{needs}
 use Rattle.window.proofs.body.parse.Statement.{statement}
 use Rattle.window.proofs.body.parse.Tie as tie
@@ -31,10 +32,14 @@ same-length-2 : tie.Need-same-length-2
 same-length-2 c = search needs
 
 returns : tie.Need-returns
-returns c = parsed _ _ _ _ _ _ _ _ (c .before .before .before .before .before .before .before .before .before .before .before .before .body-start .ensures) (c .before .before .before .before .before .before .before .before .before .before .before .list-checked .ensures) (c .before .before .before .before .before .before .before .before .before .before .list-checked2 .ensures) _ _ _ _ (c .before .before .before .before .before .before .before .before .p .given .1) (c .before .before .before .before .read .ensures)
+returns c =
+    let h = parsed _ _ _ _ _ _ _ _ (c .before .before .before .before .before .before .before .before .before .before .before .before .body-start .ensures) (c .before .before .before .before .before .before .before .before .before .before .before .list-checked .ensures) (c .before .before .before .before .before .before .before .before .before .before .list-checked2 .ensures) _ _ _ _ (c .before .before .before .before .before .before .before .before .p .given .1) (c .before .before .before .before .read .ensures) in
+    (h .0, (h .1 .0, (h .1 .1, read-numbered (h .0) (λ x. x .answer))))
 
 returns-2 : tie.Need-returns-2
-returns-2 c = parsed-refused _ _ _ _ _ _ _ _ (c .before .before .before .before .before .before .body-start .ensures) (c .before .before .before .before .before .list-checked .ensures) (c .before .before .before .before .list-checked2 .ensures) _ _ (c .before .before .p2 .given .1) (c .refused .ensures)
+returns-2 c =
+    let h = parsed-refused _ _ _ _ _ _ _ _ (c .before .before .before .before .before .before .body-start .ensures) (c .before .before .before .before .before .list-checked .ensures) (c .before .before .before .before .list-checked2 .ensures) _ _ (c .before .before .p2 .given .1) (c .refused .ensures) in
+    (h .0, (h .1 .0, (h .1 .1, read-numbered (h .0) (λ x. x .answer))))
 
 pub parse-spec : {M : Type 1} → statement M
 parse-spec =

@@ -1,0 +1,14 @@
+use Rattle.input_lines.specs.Input.{begun}
+use borrow.Author.Needs.{needs}
+use Rattle.input_lines.proofs.begin.Statement.{statement}
+use Rattle.input_lines.proofs.begin.Tie as tie
+
+blank-line-requires : tie.Need-blank-line-requires
+blank-line-requires c κs = search needs
+
+returns : tie.Need-returns
+unfolding begun
+returns c = cc
+
+pub begin-spec : {M : Type 1} → statement M
+begin-spec = tie.close (tie.spec blank-line-requires returns)

@@ -1,0 +1,38 @@
+use mathlib.Core.Path.{sym}
+use lib.Seq.{length-take-le}
+use borrow.Author.Needs.{needs}
+use Rattle.page.proofs.print_section.Statement.{statement}
+use Rattle.page.proofs.print_section.Tie as tie
+use Rattle.page.proofs.print_section.Reads as reads
+use Rattle.page.proofs.print_section.Lts as lts
+use Rattle.page.proofs.print.Reads as print-reads
+use Rattle.page_lines.proofs.put_line.Reads as put-line-reads
+
+slice-aggregate-put-line : tie.Need-slice-aggregate-put-line
+slice-aggregate-put-line c = search needs
+
+put-line-requires : tie.Need-put-line-requires
+put-line-requires c κs = search needs
+
+array-share-prefix-line : tie.Need-array-share-prefix-line
+array-share-prefix-line c = search needs
+
+slice-aggregate-print : tie.Need-slice-aggregate-print
+slice-aggregate-print c = sym (length-take-le _ _ (search needs))
+
+print-requires : tie.Need-print-requires
+print-requires c κs = search needs
+
+returns : tie.Need-returns
+returns c = search needs
+
+pub print-section-spec : {M : Type 1} → statement M
+print-section-spec =
+    tie.close
+    (tie.spec
+    slice-aggregate-put-line
+    put-line-requires
+    array-share-prefix-line
+    slice-aggregate-print
+    print-requires
+    returns)

@@ -1,4 +1,7 @@
-// The limits of a window's lists and of reserve0, written into a section and read back in both byte orders: one line of answer each.
+// Limits of document 01, written into a section and read back in both byte orders: one line of answer each.
+mod records;
+mod shown;
+
 use core::cursor::ByteOrder;
 use core::error::Refusal;
 use core_checks::checks::Written;
@@ -30,35 +33,23 @@ fn print_refusal(why: Refusal) {
     print(&text[..k]);
 }
 
-// A blank record of a kind, with this reserve0.
-fn record_of(kind: Kind, reserve0: u8) -> Record {
-    let mut base = pane::blank_pane();
-    base.flag_ex.reserve0 = reserve0;
-    Record {
-        kind,
-        base,
-        picture: picture::blank_picture(),
-        text_box: text_box::blank_text_box(),
-        window: window::blank_window(),
-        alignment: alignment::blank_alignment(),
-    }
+fn print_named(name: &[u8], n: usize) {
+    print(name);
+    print_figure(n);
 }
 
 // ---- reading
 
-fn print_pane(end: usize, next: usize, reach: usize, frames: u8) {
-    print(b", read: pane");
-    print_figure(end);
+fn print_pane(end: usize, next: usize, reach: usize, r: Record) {
+    print_named(b", read: pane", end);
     print_figure(next);
-    print(b", reach");
-    print_figure(reach);
-    print(b", frames");
-    print_figure(frames as usize);
+    print_named(b", reach", reach);
+    shown::show(r);
 }
 
-fn print_read(answer: Section, frames: u8) {
+fn print_read(answer: Section, r: Record) {
     match answer {
-        Section::Pane { end, next, reach } => print_pane(end, next, reach, frames),
+        Section::Pane { end, next, reach } => print_pane(end, next, reach, r),
         Section::Passed { next: _ } => print(b", passed"),
         Section::End => print(b", end"),
         Section::Refused(_) => print(b", refused"),
@@ -81,7 +72,8 @@ fn read_back(order: ByteOrder, data: &[u8]) {
         &mut frames,
     );
     let answer = read.answer;
-    print_read(answer, read.record.window.frame_count);
+    let record = read.record;
+    print_read(answer, record);
 }
 
 // ---- writing
@@ -116,9 +108,26 @@ fn answer(order: ByteOrder, out: &[u8], written: Written) {
     }
 }
 
-fn write_and_read(order: ByteOrder, r: Record, quads: &[u32], frames: &[u16]) {
+// A section of this record, with its lists and label.
+fn write_and_read(
+    order: ByteOrder,
+    r: Record,
+    quads: &[u32],
+    units: &[u16],
+    lines: &[u32],
+    frames: &[u16],
+    label: &[u8],
+    out: &mut [u8],
+) {
+    let written = strip::write::write_section(order, r, quads, units, lines, frames, label, out, 0);
+    answer(order, out, written);
+}
+
+// ---- a line: what it is, and a section
+
+fn listed(order: ByteOrder, r: Record, quads: &[u32], frames: &[u16]) {
     let mut out = [9u8; 16384];
-    let written = strip::write::write_section(
+    write_and_read(
         order,
         r,
         quads,
@@ -127,42 +136,163 @@ fn write_and_read(order: ByteOrder, r: Record, quads: &[u32], frames: &[u16]) {
         frames,
         b"",
         &mut out,
-        0,
     );
-    answer(order, &out, written);
 }
 
-// A line: what it is, and a section of this kind with so many numbers of quads and of frames.
-fn line(order: ByteOrder, what: &[u8], kind: Kind, reserve0: u8, q: usize, f: usize)
+// Of this record, with so many numbers of quads and of frames.
+fn line(order: ByteOrder, what: &[u8], r: Record, q: usize, f: usize)
     requires { ⌜ (q ≤ 2048) × (f ≤ 512) ⌝ }
 {
     let quads = [1u32; 2048];
     let frames = [1u16; 512];
     print(what);
+    listed(order, r, &quads[0..q], &frames[0..f]);
+    print(b"\n");
+}
+
+// The same of a blank record.
+fn blank_line(order: ByteOrder, what: &[u8], kind: Kind, reserve0: u8, q: usize, f: usize)
+    requires { ⌜ (q ≤ 2048) × (f ≤ 512) ⌝ }
+{
+    line(order, what, records::of_kind(kind, reserve0), q, f);
+}
+
+// Of a text box, into this output.
+fn text_line_into(
+    order: ByteOrder,
+    what: &[u8],
+    r: Record,
+    units: &[u16],
+    lines: &[u32],
+    label: &[u8],
+    out: &mut [u8],
+) {
+    print(what);
     write_and_read(
         order,
-        record_of(kind, reserve0),
-        &quads[0..q],
-        &frames[0..f],
+        r,
+        &lines[0..0],
+        units,
+        lines,
+        &units[0..0],
+        label,
+        out,
     );
     print(b"\n");
 }
 
+// Of a text box, into an output that the longest of these fills.
+fn text_line(order: ByteOrder, what: &[u8], r: Record, units: &[u16], lines: &[u32], label: &[u8]) {
+    let mut out = [9u8; 67752];
+    text_line_into(order, what, r, units, lines, label, &mut out);
+}
+
+fn units_line(order: ByteOrder, what: &[u8], r: Record, units: &[u16]) {
+    let none = [1u32; 1];
+    text_line(order, what, r, units, &none[0..0], b"");
+}
+
+fn table_line(order: ByteOrder, what: &[u8], r: Record, lines: &[u32]) {
+    let none = [1u16; 1];
+    text_line(order, what, r, &none[0..0], lines, b"");
+}
+
+fn label_line(order: ByteOrder, what: &[u8], r: Record, label: &[u8]) {
+    let units = [1u16; 1];
+    let lines = [1u32; 1];
+    text_line(order, what, r, &units[0..0], &lines[0..0], label);
+}
+
+// ---- the lines
+
+// Lists of windows and pictures; reserve0.
+fn blank_lines(order: ByteOrder) {
+    blank_line(order, b"255 frames:", Kind::Wnd1, 31, 0, 510);
+    blank_line(order, b"256 frames:", Kind::Wnd1, 31, 0, 512);
+    blank_line(order, b"255 quads in a window:", Kind::Wnd1, 31, 2040, 0);
+    blank_line(order, b"256 quads in a window:", Kind::Wnd1, 31, 2048, 0);
+    blank_line(order, b"255 quads in a picture:", Kind::Pic1, 31, 2040, 0);
+    blank_line(order, b"256 quads in a picture:", Kind::Pic1, 31, 2048, 0);
+    blank_line(order, b"9 numbers of quads:", Kind::Pic1, 31, 9, 0);
+    blank_line(order, b"a list that the kind lacks:", Kind::Ali1, 31, 9, 3);
+    blank_line(order, b"reserve0 32:", Kind::Wnd1, 32, 9, 512);
+}
+
+// The longest picture and the longest window.
+fn full_lines(order: ByteOrder) {
+    let picture = records::picture_with(4_294_967_295);
+    line(order, b"255 quads and a shape index:", picture, 2040, 0);
+    let window = records::window_with(65_535);
+    line(order, b"255 quads and 255 frames:", window, 2040, 510);
+}
+
+// The text_length is 65,535, which is that of 32,767 units. D800 is the first half of a pair.
+fn texts(order: ByteOrder) {
+    let mut units = [1u16; 32768];
+    let r = records::text_of(65_535);
+    units_line(order, b"32767 units:", r, &units[0..32767]);
+    units_line(order, b"32768 units:", r, &units);
+    units[32766] = 0xD800;
+    units_line(order, b"the last unit half a pair:", r, &units[0..32767]);
+}
+
+fn tables(order: ByteOrder) {
+    let lines = [1u32; 512];
+    let r = records::table_with(true);
+    table_line(order, b"255 lines:", r, &lines[0..510]);
+    table_line(order, b"256 lines:", r, &lines);
+    let clear = records::table_with(false);
+    table_line(
+        order,
+        b"255 lines, flag bit 6 clear:",
+        clear,
+        &lines[0..510],
+    );
+}
+
+fn labels(order: ByteOrder) {
+    let r = records::labelled();
+    label_line(order, b"an empty label:", r, b"");
+    label_line(order, b"a NUL in a label:", r, b"a\0");
+}
+
+// The longest text and line table with a label, in an output that they fill and in one that is a byte shorter.
+fn wholes(order: ByteOrder) {
+    let units = [1u16; 32767];
+    let lines = [1u32; 510];
+    let r = records::whole();
+    text_line(
+        order,
+        b"text, label, lines and a font scale:",
+        r,
+        &units,
+        &lines,
+        b"ok",
+    );
+    let mut out = [9u8; 67751];
+    text_line_into(
+        order,
+        b"the same, with a byte less of room:",
+        r,
+        &units,
+        &lines,
+        b"ok",
+        &mut out,
+    );
+}
+
 // The limits, in a byte order.
-fn lines(order: ByteOrder) {
-    line(order, b"255 frames:", Kind::Wnd1, 31, 0, 510);
-    line(order, b"256 frames:", Kind::Wnd1, 31, 0, 512);
-    line(order, b"255 quads in a window:", Kind::Wnd1, 31, 2040, 0);
-    line(order, b"256 quads in a window:", Kind::Wnd1, 31, 2048, 0);
-    line(order, b"255 quads in a picture:", Kind::Pic1, 31, 2040, 0);
-    line(order, b"256 quads in a picture:", Kind::Pic1, 31, 2048, 0);
-    line(order, b"9 numbers of quads:", Kind::Pic1, 31, 9, 0);
-    line(order, b"a list that the kind lacks:", Kind::Ali1, 31, 9, 3);
-    line(order, b"reserve0 32:", Kind::Wnd1, 32, 9, 512);
+fn all(order: ByteOrder) {
+    blank_lines(order);
+    full_lines(order);
+    texts(order);
+    tables(order);
+    labels(order);
+    wholes(order);
 }
 
 fn main() {
-    lines(ByteOrder::Little);
+    all(ByteOrder::Little);
     print(b"big-endian:\n");
-    lines(ByteOrder::Big);
+    all(ByteOrder::Big);
 }

@@ -14,7 +14,7 @@ use Rattle.flat_kinds.specs.Own.{shapeWords, pictureWords, shapeAt, pictureAt, 
 use Rattle.flat_text_box.specs.TextBox.{indicesWords, textFlagsWords, measureWords, fontWords, shadowWords, textWords, labelWords, linesWords, textBoxWords, textFlagsAt, measureAt, textAt, labelAt, linesAt, textBoxAt}
 use Rattle.flat_records.specs.Records.{kindOf, kindNumber, ownWords, recordWords, recordBy, recordOf}
 use Rattle.flat_records.specs.Below.{baseBounds, pictureBounds, fontBounds, shadowBounds, windowBounds, alignmentBounds, checkedBy, ownChecked, wordsChecked}
-use Rattle.flat_records.specs.Typed.{Plain}
+use Rattle.flat_records.specs.Typed.{Plain, Counted}
 use Rattle.flat_records.specs.declared.bounds.Checked.{Checked}
 use Rattle.flat_records.specs.declared.bounds.Checked.the-variants.{Good}
 use Rattle.flat_records.proofs.SameParts.{run, run-again, Scanned, below, AllScanned, all-good, flag-word, horizontal-word, vertical-word, window-kind-word, alignment-word, kind-word, side-word, bytes-words}
@@ -76,9 +76,9 @@ module _ (w : List ℕ) where
   shape-same (suc zero) e h s k = rw (e, mod-eq-of-lt (below s 0 (omega arith)))
   shape-same (suc (suc n)) e h s k = absurd (omega arith)
 
-  picture-same : AllScanned pictureBounds w → Plain Pic1 w → pictureWords (pictureAt w) ≡ run w 62 20
+  picture-same : AllScanned pictureBounds w → Plain Pic1 w → Counted Pic1 w → pictureWords (pictureAt w) ≡ run w 62 20
   unfolding run pictureWords pictureAt
-  picture-same (c, (m, (p, (i, z)))) (q, k) =
+  picture-same (c, (m, (p, (i, z)))) k q =
       let e : halfAt w 78 ∷ byteAt w 79 ∷ [] ≡ getD w 78 0 ∷ getD w 79 0 ∷ [] = rw (mod-eq-of-lt (below m 0 (omega arith)), mod-eq-of-lt q) in
       join (colors62 c) (join e (shape-same (getD w 80 0) refl (below p 0 (omega arith)) i k))
 
@@ -129,9 +129,9 @@ module _ (w : List ℕ) where
   lines-same (suc zero) e h s k = rw (e, mod-eq-of-lt s)
   lines-same (suc (suc n)) e h s k = absurd (omega arith)
 
-  text-box-same : AllScanned fontBounds w → AllScanned shadowBounds w → Plain Txt1 w → textBoxWords (textBoxAt w) ≡ run w 62 54
+  text-box-same : AllScanned fontBounds w → AllScanned shadowBounds w → Plain Txt1 w → Counted Txt1 w → textBoxWords (textBoxAt w) ≡ run w 62 54
   unfolding run textBoxWords textBoxAt
-  text-box-same (s, (o, (a, (f, (m, (c, y)))))) (h, (d, (t, (p, (l, z))))) (kl, kt, n) =
+  text-box-same (s, (o, (a, (f, (m, (c, y)))))) (h, (d, (t, (p, (l, z))))) (kl, kt) n =
       join (indices-same s o a)
       (join (text-flags-same f)
       (join (font-same f m c)
@@ -152,7 +152,7 @@ module _ (w : List ℕ) where
   unfolding run
   colors75 s = join (color-same 75 (below s 0 (omega arith)) (below s 1 (omega arith)) (below s 2 (omega arith)) (below s 3 (omega arith))) (join (color-same 79 (below s 4 (omega arith)) (below s 5 (omega arith)) (below s 6 (omega arith)) (below s 7 (omega arith))) (join (color-same 83 (below s 8 (omega arith)) (below s 9 (omega arith)) (below s 10 (omega arith)) (below s 11 (omega arith))) (color-same 87 (below s 12 (omega arith)) (below s 13 (omega arith)) (below s 14 (omega arith)) (below s 15 (omega arith)))))
 
-  window-same : AllScanned windowBounds w → Plain Wnd1 w → windowWords (windowAt w) ≡ run w 62 31
+  window-same : AllScanned windowBounds w → Counted Wnd1 w → windowWords (windowAt w) ≡ run w 62 31
   unfolding run windowWords windowAt
   window-same (s, (f, (k, (d, (c, (m, z)))))) (n, q) =
       let e : halfAt w 91 ∷ byteAt w 92 ∷ [] ≡ getD w 91 0 ∷ getD w 92 0 ∷ [] = rw (mod-eq-of-lt (below m 0 (omega arith)), mod-eq-of-lt q) in
@@ -166,15 +166,15 @@ module _ (w : List ℕ) where
 
   -- ---- a record
 
-  whole-same : (k : Kind) → kindNumber k ≡ getD w 0 0 → AllScanned baseBounds w → ownChecked k Good w ≡ Good → Plain k w → splice w 0 (recordWords (recordBy k w)) ≡ w
+  whole-same : (k : Kind) → kindNumber k ≡ getD w 0 0 → AllScanned baseBounds w → ownChecked k Good w ≡ Good → Plain k w → Counted k w → splice w 0 (recordWords (recordBy k w)) ≡ w
   unfolding run recordWords recordBy ownWords
-  whole-same Pan1 e b o p = ap (splice w 0) (join (one e) (join (base-same b) refl)) ∙ run-again w 0 62
-  whole-same Pic1 e b o p = ap (splice w 0) (join (one e) (join (base-same b) (picture-same (all-good Good pictureBounds w o .1) p))) ∙ run-again w 0 82
-  whole-same Txt1 e b o p =
+  whole-same Pan1 e b o p n = ap (splice w 0) (join (one e) (join (base-same b) refl)) ∙ run-again w 0 62
+  whole-same Pic1 e b o p n = ap (splice w 0) (join (one e) (join (base-same b) (picture-same (all-good Good pictureBounds w o .1) p n))) ∙ run-again w 0 82
+  whole-same Txt1 e b o p n =
       let (f, s) = all-good (checkedBy Good fontBounds w) shadowBounds w o in
-      ap (splice w 0) (join (one e) (join (base-same b) (text-box-same (all-good Good fontBounds w f .1) s p))) ∙ run-again w 0 116
-  whole-same Wnd1 e b o p = ap (splice w 0) (join (one e) (join (base-same b) (window-same (all-good Good windowBounds w o .1) p))) ∙ run-again w 0 93
-  whole-same Ali1 e b o p = ap (splice w 0) (join (one e) (join (base-same b) (alignment-same (all-good Good alignmentBounds w o .1)))) ∙ run-again w 0 66
+      ap (splice w 0) (join (one e) (join (base-same b) (text-box-same (all-good Good fontBounds w f .1) s p n))) ∙ run-again w 0 116
+  whole-same Wnd1 e b o p n = ap (splice w 0) (join (one e) (join (base-same b) (window-same (all-good Good windowBounds w o .1) n))) ∙ run-again w 0 93
+  whole-same Ali1 e b o p n = ap (splice w 0) (join (one e) (join (base-same b) (alignment-same (all-good Good alignmentBounds w o .1)))) ∙ run-again w 0 66
 
   own-good : (k : Kind) (c : Checked) → ownChecked k c w ≡ Good → c ≡ Good
   own-good Pan1 c e = e
@@ -184,10 +184,10 @@ module _ (w : List ℕ) where
   own-good Ali1 c e = all-good c alignmentBounds w e .0
 
   -- THE LAW
-  pub same-words : wordsChecked w ≡ Good → Plain (kindOf (getD w 0 0)) w → splice w 0 (recordWords (recordOf w)) ≡ w
+  pub same-words : wordsChecked w ≡ Good → Plain (kindOf (getD w 0 0)) w → Counted (kindOf (getD w 0 0)) w → splice w 0 (recordWords (recordOf w)) ≡ w
   unfolding wordsChecked
-  same-words g p =
+  same-words g p n =
       let c = own-good (kindOf (getD w 0 0)) (checkedBy Good baseBounds w) g in
       let b = all-good Good baseBounds w c .1 in
       let o = subst (λ (d : Checked). ownChecked (kindOf (getD w 0 0)) d w ≡ Good) c g in
-      whole-same (kindOf (getD w 0 0)) (kind-word (getD w 0 0) (below (b .0) 0 (omega arith))) b o p
+      whole-same (kindOf (getD w 0 0)) (kind-word (getD w 0 0) (below (b .0) 0 (omega arith))) b o p n

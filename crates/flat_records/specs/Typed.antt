@@ -34,10 +34,18 @@ OthersBlank Txt1 r = (r .picture ≡ blankPicture) × (r .window ≡ blankWindow
 OthersBlank Wnd1 r = (r .picture ≡ blankPicture) × (r .«text_box» ≡ blankTextBox) × (r .alignment ≡ blankAlignment)
 OthersBlank Ali1 r = (r .picture ≡ blankPicture) × (r .«text_box» ≡ blankTextBox) × (r .window ≡ blankWindow)
 
--- words in which what is absent is 0, a shape, a label and a line table, and in which each count is below 256
+-- words in which what is absent is 0: a shape; a label and a line table
 abbrev pub Plain : Kind → List ℕ → Type 0
 Plain Pan1 w = Unit {0}
-Plain Pic1 w = (getD w 79 0 < 256) × (getD w 80 0 ≡ 0 → getD w 81 0 ≡ 0)
-Plain Txt1 w = (getD w 111 0 ≡ 0 → (getD w 112 0 ≡ 0) × (getD w 113 0 ≡ 0)) × (getD w 114 0 ≡ 0 → getD w 115 0 ≡ 0) × (getD w 115 0 < 256)
-Plain Wnd1 w = (getD w 74 0 < 256) × (getD w 92 0 < 256)
+Plain Pic1 w = getD w 80 0 ≡ 0 → getD w 81 0 ≡ 0
+Plain Txt1 w = (getD w 111 0 ≡ 0 → (getD w 112 0 ≡ 0) × (getD w 113 0 ≡ 0)) × (getD w 114 0 ≡ 0 → getD w 115 0 ≡ 0)
+Plain Wnd1 w = Unit {0}
 Plain Ali1 w = Unit {0}
+
+-- words in which each count is a byte: of quads; of lines; of frames and of the content's quads
+abbrev pub Counted : Kind → List ℕ → Type 0
+Counted Pan1 w = Unit {0}
+Counted Pic1 w = getD w 79 0 < 256
+Counted Txt1 w = getD w 115 0 < 256
+Counted Wnd1 w = (getD w 74 0 < 256) × (getD w 92 0 < 256)
+Counted Ali1 w = Unit {0}

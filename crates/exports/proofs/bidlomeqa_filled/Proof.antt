@@ -1,5 +1,6 @@
 use Rattle.exports.proofs.Outcomes.{filled-short, filled-seen}
 use borrow.Author.Needs.{needs}
+use native.Mathlib.Omega.{arith}
 use Rattle.exports.proofs.bidlomeqa_filled.Statement.{statement}
 use Rattle.exports.proofs.bidlomeqa_filled.Tie as tie
 use Rattle.exports.proofs.bidlomeqa_filled.Reads as reads
@@ -7,7 +8,7 @@ use Rattle.exports.proofs.bidlomeqa_filled.Lts as lts
 use Rattle.exports_parts.proofs.counts.counted.Reads as counted-reads
 
 returns : tie.Need-returns
-returns c = filled-short _ _ (c .if1 .taken)
+returns c = filled-short _ _ (omega arith)
 
 counted-requires : tie.Need-counted-requires
 counted-requires c κs = search needs

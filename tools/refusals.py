@@ -1,6 +1,6 @@
 #!/usr/bin/env python3
 """Checks that the sentences of the refusals are the same in docs/REFUSALS.md, in the Rust crate (bindings/rust/src/refusal.rs) and, for those
-that a page can give, in the definitions of the program page's lines (crates/page_lines/specs/PageLine.antt), with the same figures at the same places there.
+that a page can give, in the definitions of the program page's lines (crates/page/specs/PageLine.antt), with the same figures at the same places there.
 Prints what differs, and exits with 1 if anything does."""
 import pathlib
 import re
@@ -30,7 +30,7 @@ def of_rust():
 
 def of_page():
     """By number: the definitions that `sentence` picks, `ascii ".."` for text, `decimal a` and `stringText b` for figures."""
-    text = (TOP / "crates/page_lines/specs/PageLine.antt").read_text()
+    text = (TOP / "crates/page/specs/PageLine.antt").read_text()
     found = {}
     for number, name in re.findall(r"eqb number (\d+)\) \((\w+)", text):
         parts = re.search(rf"^{name} [ab ]*= (.*)$", text, re.M).group(1)

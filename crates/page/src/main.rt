@@ -2,9 +2,12 @@
 // of no kind, and at last `end at 100`, or `no NUMBER a b at 100: SENTENCE` where the section is refused, with the sentence of docs/REFUSALS.md.
 // Between the quotes a quote and a backslash have a backslash before them, and control characters are written as `\xHH`; so are, of a name, characters
 // that end a line, and of letters of no kind all bytes of 0x80 and above (crate `escapes`). So no name can make a line of its own.
-// The page is standard input, at most 5,242,880 bytes: it lies on the stack, since a program has no other memory, and of the 8,388,608 bytes that a
-// stack has by default a quarter may go to arguments and environment. A longer page, and an input that cannot be read, is told by one line and not walked. All lines go
-// to standard output, and there is no exit status to tell them by: Rattle has none.
+// The page is standard input. It lies on the stack, since a program has no other memory, and how much of it page takes depends on how large the stack may
+// be: 16,777,216 bytes, and no page is longer, where it may have 25,165,824 (`ulimit -s 24576`), and else 5,242,880, where it may have 8,388,608, as
+// by default. A longer page, a smaller stack and an input that cannot be read are told by one line each, and nothing is walked. All lines go to standard output, and
+// there is no exit status to tell them by: Rattle has none.
+mod line;
+
 use core::cursor::ByteOrder;
 use libc::STDIN_FILENO;
 use libc::STDOUT_FILENO;
@@ -19,7 +22,7 @@ fn print(text: &[u8]) {
 
 // ---- the page
 
-// The line of the section that begins at this place, from what was read of it: crate `page_lines` says which.
+// The line of the section that begins at this place, from what was read of it: `line::put_line` says which.
 fn print_section(data: &[u8], place: usize, read: Step) {
     let answer = read.answer;
     let record = read.record;
@@ -27,7 +30,7 @@ fn print_section(data: &[u8], place: usize, read: Step) {
     let base = record.base;
     let name = base.pane_name;
     let mut line = [0u8; 212];
-    let end = page_lines::put_line(&mut line, 0, data, place, answer, kind, name);
+    let end = line::put_line(&mut line, 0, data, place, answer, kind, name);
     print(&line[..end]);
 }
 
@@ -101,7 +104,7 @@ fn read_page(bytes: &mut [u8]) -> Input
 }
 
 // Reads the page and prints its lines, or why there are none. A page that fills bytes is too long.
-fn run(bytes: &mut [u8]) {
+fn run(bytes: &mut [u8], too_long: &[u8]) {
     let input = read_page(bytes);
     let n = input.end;
     if input.failed {
@@ -109,20 +112,82 @@ fn run(bytes: &mut [u8]) {
         return;
     }
     if bytes.len() <= n {
-        print(
-            b"more than 5242880 bytes: a page lies on the stack, which has 8388608 bytes by default\n",
-        );
+        print(too_long);
         return;
     }
     page(&bytes[..n]);
 }
 
-// An array is lent by its type, and not as a slice, for the check's sake: it then does not count the zeros.
-fn run_in(bytes: &mut [u8; 5242881]) {
-    run(bytes);
+// ---- the room on the stack
+
+// The longest page by document 01 (check 1), and what is taken where there is no room for it.
+const LARGE_PAGE: usize = 16777216;
+
+const SMALL_PAGE: usize = 5242880;
+
+// What the stack must be allowed to have for each: a quarter of it, and at most 6,291,456 bytes, may go to arguments and environment.
+const LARGE_STACK: i64 = 25165824;
+
+const SMALL_STACK: i64 = 8388608;
+
+// An array is lent by its type, and not as a slice, for the check's sake: it then does not count the zeros. It has a byte more than the page, to tell a longer one.
+fn run_in_large(bytes: &mut [u8; LARGE_PAGE + 1]) {
+    run(bytes, b"more than 16777216 bytes: no page is longer\n");
+}
+
+fn run_in_small(bytes: &mut [u8; SMALL_PAGE + 1]) {
+    run(
+        bytes,
+        b"more than 5242880 bytes: a page lies on the stack, which may have less than 25165824 bytes here; with ulimit -s 24576 or more, page takes 16777216\n",
+    );
+}
+
+fn run_large() {
+    let mut bytes = [0u8; LARGE_PAGE + 1];
+    run_in_large(&mut bytes);
+}
+
+fn run_small() {
+    let mut bytes = [0u8; SMALL_PAGE + 1];
+    run_in_small(&mut bytes);
+}
+
+// Whether there is room for the array of this number: 1 is the large one, 2 the small one. `sysconf` is asked how much arguments and environment may
+// take, and glibc answers a quarter of what the stack may have, or 6,291,456 where that is less.
+fn has_room(number: usize) -> bool {
+    let quarter = libc::sysconf(libc::_SC_ARG_MAX);
+    if number == 1 {
+        return LARGE_STACK / 4 <= quarter;
+    }
+    SMALL_STACK / 4 <= quarter
+}
+
+// Takes the page in the first array that there is room for, of those up to this number, and says whether there is one.
+// It calls itself for the sake of the stack. The compiler (LLVM) may merge a function into its caller, arrays and all: the large array would lie on the stack
+// before the test, and end the program where there is no room. It does not do so where the caller calls itself and goes on after that, as here. The gate, with
+// the stack that is the default, would see it.
+fn run_in_first(number: usize) -> bool {
+    if number == 0 {
+        return false;
+    }
+    if run_in_first(number - 1) {
+        return true;
+    }
+    let room = has_room(number);
+    if room {
+        if number == 1 {
+            run_large();
+        } else {
+            run_small();
+        }
+    }
+    room
 }
 
 fn main() {
-    let mut bytes = [0u8; 5242881];
-    run_in(&mut bytes);
+    if !run_in_first(2) {
+        print(
+            b"no page is read: it would lie on the stack, which may have less than 8388608 bytes here; with ulimit -s 8192 or more, page takes 5242880\n",
+        );
+    }
 }

@@ -3,10 +3,6 @@ use lib.Seq.{length-take-le}
 use borrow.Author.Needs.{needs}
 use Rattle.page.proofs.print_section.Statement.{statement}
 use Rattle.page.proofs.print_section.Tie as tie
-use Rattle.page.proofs.print_section.Reads as reads
-use Rattle.page.proofs.print_section.Lts as lts
-use Rattle.page.proofs.print.Reads as print-reads
-use Rattle.page_lines.proofs.put_line.Reads as put-line-reads
 
 slice-aggregate-put-line : tie.Need-slice-aggregate-put-line
 slice-aggregate-put-line c = search needs

@@ -6,9 +6,6 @@ use native.Mathlib.Omega.{arith}
 use borrow.Author.Needs.{needs}
 use Rattle.page.proofs.read_page.Statement.{statement}
 use Rattle.page.proofs.read_page.Tie as tie
-use Rattle.page.proofs.read_page.Reads as reads
-use Rattle.page.proofs.read_page.Lts as lts
-use Rattle.page.proofs.read_more.Reads as read-more-reads
 
 abbrev Inv-loop : tie.InvT-loop
 Inv-loop bytes₀ end₀ bytes end = (end ≤ length bytes) × (length bytes ≡ length bytes₀)

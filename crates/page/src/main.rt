@@ -2,10 +2,10 @@
 // of no kind, and at last `end at 100`, or `no NUMBER a b at 100: SENTENCE` where the section is refused, with the sentence of docs/REFUSALS.md.
 // Between the quotes a quote and a backslash have a backslash before them, and control characters are written as `\xHH`; so are, of a name, characters
 // that end a line, and of letters of no kind all bytes of 0x80 and above (crate `escapes`). So no name can make a line of its own.
-// The page is standard input. It lies on the stack, since a program has no other memory, and how much of it page takes depends on how large the stack may
-// be: 16,777,216 bytes, and no page is longer, where it may have 25,165,824 (`ulimit -s 24576`), and else 5,242,880, where it may have 8,388,608, as
-// by default. A longer page, a smaller stack and an input that cannot be read are told by one line each, and nothing is walked. All lines go to standard output, and
-// there is no exit status to tell them by: Rattle has none.
+// The page is standard input. It lies on the stack, since a program has no other memory. So page takes 16,777,216 bytes, and no page is longer, where the
+// stack may have 25,165,824 or more (`ulimit -s 24576`), and 5,242,880 where it may have less, down to 8,388,608, the default. A longer page, a smaller stack
+// and an input that cannot be read are told by one line each, and nothing is walked. All lines go to standard output, and there is no exit status to tell
+// them by: Rattle has none.
 mod line;
 
 use core::cursor::ByteOrder;
@@ -120,14 +120,16 @@ fn run(bytes: &mut [u8], too_long: &[u8]) {
 
 // ---- the room on the stack
 
-// The longest page by document 01 (check 1), and what is taken where there is no room for it.
+// The longest page by document 01 (check 1).
 const LARGE_PAGE: usize = 16777216;
 
+// The longest that is taken where there is no room for that.
 const SMALL_PAGE: usize = 5242880;
 
-// What the stack must be allowed to have for each: a quarter of it, and at most 6,291,456 bytes, may go to arguments and environment.
+// What the stack must be allowed to have for a large page. Arguments and environment may take a quarter of it, and at most 6,291,456 bytes.
 const LARGE_STACK: i64 = 25165824;
 
+// The same for a small page.
 const SMALL_STACK: i64 = 8388608;
 
 // An array is lent by its type, and not as a slice, for the check's sake: it then does not count the zeros. It has a byte more than the page, to tell a longer one.

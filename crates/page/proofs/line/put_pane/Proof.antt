@@ -19,8 +19,8 @@ use Rattle.page.proofs.line.put_pane.Tie as tie
 long : (c : tie.Start) → length (c .args .name .bytes) ≡ 24
 long c = search needs
 
-counted : (c : tie.Start) (n : ℕ) → n ≡ min (c .args .name .count) 24 → length (take n (c .args .name .bytes)) ≡ n
-counted c n e = let h : n ≤ length (c .args .name .bytes) = omega (arith, long c, e) in length-take-le n (c .args .name .bytes) h
+counted : (c : tie.Start) (n : ℕ) → n ≤ 24 → length (take n (c .args .name .bytes)) ≡ n
+counted c n h = length-take-le n (c .args .name .bytes) (omega (arith, long c))
 
 least-requires : tie.Need-least-requires
 least-requires c κs = search needs
@@ -41,13 +41,19 @@ array-share-prefix-bytes : tie.Need-array-share-prefix-bytes
 array-share-prefix-bytes c = omega (arith, long (c .before .before .before .before .before .before .before .before .before .before .before .before .before .before), c .before .before .before .before .before .before .before .before .before .before .before .least .ensures)
 
 slice-aggregate-put-quoted : tie.Need-slice-aggregate-put-quoted
-slice-aggregate-put-quoted c = sym (counted (c .before .before .before .before .before .before .before .before .before .before .before .before .before .before .before) _ (c .before .before .before .before .before .before .before .before .before .before .before .before .least .ensures))
+slice-aggregate-put-quoted c =
+    let l = c .before .before .before .before .before .before .before .before .before .before .before .before .least in
+    sym (counted (c .before .before .before .before .before .before .before .before .before .before .before .before .before .before .before) (l .result) (omega (arith, l .ensures)))
 
 put-quoted-requires : tie.Need-put-quoted-requires
-put-quoted-requires c κs = omega (arith, counted (c .before .before .before .before .before .before .before .before .before .before .before .before .before .before .before) _ (c .before .before .before .before .before .before .before .before .before .before .before .before .least .ensures), c .before .before .before .before .before .before .before .before .before .before .before .before .least .ensures)
+put-quoted-requires c κs =
+    let l = c .before .before .before .before .before .before .before .before .before .before .before .before .least in
+    omega (arith, counted (c .before .before .before .before .before .before .before .before .before .before .before .before .before .before .before) (l .result) (omega (arith, l .ensures)), l .ensures)
 
 put-size-requires : tie.Need-put-size-requires
-put-size-requires c κs = omega (arith, counted (c .before .before .before .before .before .before .before .before .before .before .before .before .before .before .before .before .before .before .before) _ (c .before .before .before .before .before .before .before .before .before .before .before .before .before .before .before .before .least .ensures), c .before .before .before .before .before .before .before .before .before .before .before .before .before .before .before .before .least .ensures)
+put-size-requires c κs =
+    let l = c .before .before .before .before .before .before .before .before .before .before .before .before .before .before .before .before .least in
+    omega (arith, counted (c .before .before .before .before .before .before .before .before .before .before .before .before .before .before .before .before .before .before .before) (l .result) (omega (arith, l .ensures)), l .ensures)
 
 same-length : tie.Need-same-length
 same-length c = search needs
@@ -56,11 +62,11 @@ returns : tie.Need-returns
 unfolding paneText
 returns c =
     let s = c .before .before .before .before .before .before .before .before .before .before .before .before .before .before .before .before .before .before .before .before .before .before in
-    let n = c .before .before .before .before .before .before .before .before .before .before .before .before .before .before .before .before .before .before .before .least .ensures in
-    let name = ap (λ (k : ℕ). take k (s .args .name .bytes)) (n ∙ ap (min (s .args .name .count)) (sym (long s))) ∙ take-least (s .args .name .count) (s .args .name .bytes) in
+    let l = c .before .before .before .before .before .before .before .before .before .before .before .before .before .before .before .before .before .before .before .least in
+    let name = ap (λ (k : ℕ). take k (s .args .name .bytes)) (l .ensures ∙ ap (min (s .args .name .count)) (sym (long s))) ∙ take-least (s .args .name .count) (s .args .name .bytes) in
     let letters = put-as refl (ap (bytesOf Little 4) (c .before .before .before .before .before .before .before .before .before .before .before .before .before .before .before .before .before .letters .ensures) ∙ letters-bytes _) (c .before .before .before .before .before .before .before .before .before .before .before .before .before .before .before .before .put-u32 .ensures) in
     let quoted = rw name at (c .before .before .before .before .before .before .put-quoted .ensures .0) in
-    (put-sized (((letters then c .before .before .before .before .before .before .before .before .before .before .before .put-bytes .ensures) then quoted) then c .before .before .put-size .ensures .0), omega (arith, counted s _ n, n))
+    (put-sized (((letters then c .before .before .before .before .before .before .before .before .before .before .before .put-bytes .ensures) then quoted) then c .before .before .put-size .ensures .0), omega (arith, counted s (l .result) (omega (arith, l .ensures)), l .ensures))
 
 pub put-pane-spec : {M : Type 1} → statement M
 put-pane-spec =

@@ -9,8 +9,11 @@
 mod line;
 
 use core::cursor::ByteOrder;
+use core::text::FixedString24;
 use libc::STDIN_FILENO;
 use libc::STDOUT_FILENO;
+use strip::kind::Kind;
+use strip::read::Section;
 use walk::Step;
 ghost use Prim.Native.Nat.{_≤_};
 ghost use lib.ListN.{length};
@@ -22,16 +25,21 @@ fn print(text: &[u8]) {
 
 // ---- the page
 
-// The line of the section that begins at this place, from what was read of it: `line::put_line` says which.
+// The line of the section that begins at this place: `line::put_line` says which.
+fn print_line(data: &[u8], place: usize, answer: Section, kind: Kind, name: FixedString24) {
+    let mut line = [0u8; 212];
+    let end = line::put_line(&mut line, 0, data, place, answer, kind, name);
+    print(&line[..end]);
+}
+
+// The same from what was read of the section.
 fn print_section(data: &[u8], place: usize, read: Step) {
     let answer = read.answer;
     let record = read.record;
     let kind = record.kind;
     let base = record.base;
     let name = base.pane_name;
-    let mut line = [0u8; 212];
-    let end = line::put_line(&mut line, 0, data, place, answer, kind, name);
-    print(&line[..end]);
+    print_line(data, place, answer, kind, name);
 }
 
 // A line for each section, until the walk stays where it is.

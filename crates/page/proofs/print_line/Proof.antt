@@ -1,8 +1,8 @@
 use mathlib.Core.Path.{sym}
 use lib.Seq.{length-take-le}
 use borrow.Author.Needs.{needs}
-use Rattle.page.proofs.print_section.Statement.{statement}
-use Rattle.page.proofs.print_section.Tie as tie
+use Rattle.page.proofs.print_line.Statement.{statement}
+use Rattle.page.proofs.print_line.Tie as tie
 
 slice-aggregate-put-line : tie.Need-slice-aggregate-put-line
 slice-aggregate-put-line c = search needs
@@ -22,8 +22,8 @@ print-requires c κs = search needs
 returns : tie.Need-returns
 returns c = search needs
 
-pub print-section-spec : {M : Type 1} → statement M
-print-section-spec =
+pub print-line-spec : {M : Type 1} → statement M
+print-line-spec =
     tie.close
     (tie.spec
     slice-aggregate-put-line

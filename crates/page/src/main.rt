@@ -3,9 +3,9 @@
 // Between the quotes a quote and a backslash have a backslash before them, and control characters are written as `\xHH`; so are, of a name, characters
 // that end a line, and of letters of no kind all bytes of 0x80 and above (crate `escapes`). So no name can make a line of its own.
 // The page is standard input. It lies on the stack, since a program has no other memory. So page takes 16,777,216 bytes, and no page is longer, where the
-// stack may have 25,165,824 or more (`ulimit -s 24576`), and 5,242,880 where it may have less, down to 8,388,608, the default. A longer page, a smaller stack
-// and an input that cannot be read are told by one line each, and nothing is walked. All lines go to standard output, and there is no exit status to tell
-// them by: Rattle has none.
+// stack may have 25,165,824 or more (`ulimit -s 24576`), and 5,242,880 where it may have less, down to 5,767,168; 8,388,608 is the default. A longer page, a
+// smaller stack and an input that cannot be read are told by one line each, and nothing is walked. All lines go to standard output, and there is no exit status
+// to tell them by: Rattle has none.
 mod line;
 
 use core::cursor::ByteOrder;
@@ -134,11 +134,12 @@ const LARGE_PAGE: usize = 16777216;
 // The longest that is taken where there is no room for that.
 const SMALL_PAGE: usize = 5242880;
 
-// What the stack must be allowed to have for a large page. Arguments and environment may take a quarter of it, and at most 6,291,456 bytes.
+// What the stack must be allowed to have for a large page: room for all that arguments and environment can take, 6,291,456 bytes, and 2,097,151 more.
 const LARGE_STACK: i64 = 25165824;
 
-// The same for a small page.
-const SMALL_STACK: i64 = 8388608;
+// The same for a small page, with 524,287 bytes for all else. Arguments and environment can take a quarter of a stack: from 7,340,032 bytes on, so by default too,
+// there is room for all of that, and below it for some 400,000 bytes.
+const SMALL_STACK: i64 = 5767168;
 
 // An array is lent by its type, and not as a slice, for the check's sake: it then does not count the zeros. It has a byte more than the page, to tell a longer one.
 fn run_in_large(bytes: &mut [u8; LARGE_PAGE + 1]) {
@@ -197,7 +198,7 @@ fn run_in_first(number: usize) -> bool {
 fn main() {
     if !run_in_first(2) {
         print(
-            b"no page is read: it would lie on the stack, which may have less than 8388608 bytes here; with ulimit -s 8192 or more, page takes 5242880\n",
+            b"no page is read: it would lie on the stack, which may have less than 5767168 bytes here; with ulimit -s 5632 or more, page takes 5242880\n",
         );
     }
 }

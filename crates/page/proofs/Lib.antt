@@ -1,2 +1,4 @@
+pub mod Again
+pub mod Lending
 pub mod OneLine
 pub mod Parts

@@ -14,7 +14,8 @@ use libc::STDIN_FILENO;
 use libc::STDOUT_FILENO;
 use strip::kind::Kind;
 use strip::read::Section;
-use walk::Step;
+use strip::read::SectionRead;
+use walk::Walk;
 ghost use Prim.Native.Nat.{_≤_};
 ghost use lib.ListN.{length};
 ghost use Rattle.io.specs.Counts.{Counts};
@@ -33,7 +34,7 @@ fn print_line(data: &[u8], place: usize, answer: Section, kind: Kind, name: Fixe
 }
 
 // The same from what was read of the section.
-fn print_section(data: &[u8], place: usize, read: Step) {
+fn print_section(data: &[u8], place: usize, read: SectionRead) {
     let answer = read.answer;
     let record = read.record;
     let kind = record.kind;
@@ -42,7 +43,7 @@ fn print_section(data: &[u8], place: usize, read: Step) {
     print_line(data, place, answer, kind, name);
 }
 
-// A line for each section, until the walk stays where it is.
+// A line for each section, until the walk stays where it is: at the end, or where a section is refused.
 fn print_page(
     data: &[u8],
     quads: &mut [u32],
@@ -50,15 +51,14 @@ fn print_page(
     lines: &mut [u32],
     frames: &mut [u16],
 ) {
-    let mut place = 0;
+    let mut walk = Walk::over(data, 0);
     loop {
-        let step = walk::section_after(ByteOrder::Little, data, place, quads, units, lines, frames);
-        let next = step.place;
-        print_section(data, place, step);
-        if next <= place {
+        let place = walk.place;
+        let read = walk.next(ByteOrder::Little, quads, units, lines, frames);
+        print_section(data, place, read);
+        if walk.place <= place {
             return;
         }
-        place = next;
     }
 }
 

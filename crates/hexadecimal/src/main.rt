@@ -6,16 +6,16 @@ use libc::STDOUT_FILENO;
 // At the end of a line.
 fn answer(bytes: &[u8], line: Line) {
     let mut out = [0u8; 66];
-    let n = line_answers::line_answered(bytes, line, &mut out);
+    let n = lines::answered::line_answered(bytes, line, &mut out);
     io::write_all(STDOUT_FILENO, &out[..n]);
 }
 
 // Reads until the input ends. The count of turns is there because every loop must be seen to end.
 fn all(chunk: &mut [u8], bytes: &mut [u8]) {
     let mut turns = u64::MAX;
-    let mut input = input_lines::begin();
+    let mut input = lines::input::begin();
     while turns > 0 && input.more {
-        input = input_lines::next(chunk, bytes, input);
+        input = lines::input::next(chunk, bytes, input);
         if input.ended {
             let line = input.line;
             answer(bytes, line);

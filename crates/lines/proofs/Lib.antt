@@ -1,4 +1,6 @@
 pub mod Decimals
+pub mod Even
 pub mod Examples
 pub mod Hexadecimals
 pub mod Sized
+pub mod Spelled

@@ -1,5 +1,8 @@
 // What the programs print, put into lent bytes at a place: a number's decimal digits, the answers with their line feed, bytes in hexadecimal.
 // Each answers the place after what it put, and changes no other byte.
+pub mod answered;
+pub mod input;
+
 use core::error::Refusal;
 use core_write::writer::put_bytes;
 use strip_header::Section;

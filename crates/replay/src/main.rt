@@ -123,9 +123,9 @@ fn ended(bytes: &[u8], line: Line) {
 // Reads until the input ends. The count of turns is there because every loop must be seen to end.
 fn all(chunk: &mut [u8], bytes: &mut [u8]) {
     let mut turns = u64::MAX;
-    let mut input = input_lines::begin();
+    let mut input = lines::input::begin();
     while turns > 0 && input.more {
-        input = input_lines::next(chunk, bytes, input);
+        input = lines::input::next(chunk, bytes, input);
         if input.ended {
             let line = input.line;
             ended(bytes, line);

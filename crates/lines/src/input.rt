@@ -5,7 +5,7 @@ ghost use mathlib.Core.Bool.{cond};
 ghost use Prim.Native.Nat.{_≤_, _<_};
 ghost use lib.ListN.{length, take, drop};
 ghost use Rattle.digits.specs.Digits.{beforeFeed, bytesAfterAll};
-ghost use Rattle.input_lines.specs.Input.{begun, current, remains, onward, refilled};
+ghost use Rattle.lines.specs.Input.{begun, current, remains, onward, refilled};
 
 // The line, whether it has ended, whether there may be more; the place in the chunk that was read, and how many bytes it has.
 pub struct Input {

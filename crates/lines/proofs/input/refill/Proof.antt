@@ -1,7 +1,7 @@
-use Rattle.input_lines.specs.Input.{refilled}
+use Rattle.lines.specs.Input.{refilled}
 use borrow.Author.Needs.{needs}
-use Rattle.input_lines.proofs.refill.Statement.{statement}
-use Rattle.input_lines.proofs.refill.Tie as tie
+use Rattle.lines.proofs.input.refill.Statement.{statement}
+use Rattle.lines.proofs.input.refill.Tie as tie
 
 current-line-requires : tie.Need-current-line-requires
 current-line-requires c κs = search needs

@@ -1,9 +1,9 @@
 use mathlib.Core.Path.{ap}
 use Rattle.strip_read.specs.declared.read.SectionRead.{SectionRead}
-use Rattle.line_answers.specs.Answered.{answerOf, fullLists}
+use Rattle.lines.specs.Answered.{answerOf, fullLists}
 use borrow.Author.Needs.{needs}
-use Rattle.line_answers.proofs.section_answer.Statement.{statement}
-use Rattle.line_answers.proofs.section_answer.Tie as tie
+use Rattle.lines.proofs.answered.section_answer.Statement.{statement}
+use Rattle.lines.proofs.answered.section_answer.Tie as tie
 
 slice-aggregate-read-section : tie.Need-slice-aggregate-read-section
 slice-aggregate-read-section c = search needs

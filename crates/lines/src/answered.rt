@@ -6,7 +6,7 @@ ghost use mathlib.Core.Path.{_≡_};
 ghost use Prim.Native.Nat.{_≤_};
 ghost use lib.ListN.{length};
 ghost use Rattle.core.specs.Bytes.{Room, Put};
-ghost use Rattle.line_answers.specs.Answered.{answerOf, answerTo};
+ghost use Rattle.lines.specs.Answered.{answerOf, answerTo};
 
 // Reads the section at place 0, with lists at full length.
 pub fn section_answer(data: &[u8]) -> Section
@@ -37,8 +37,8 @@ pub fn line_answered(bytes: &[u8], line: Line, out: &mut [u8]) -> usize
     let half = line.digits / 2;
     if digits::spells(line, bytes.len()) {
         let answer = section_answer(&bytes[..half]);
-        lines::answer_line(out, 0, answer)
+        crate::answer_line(out, 0, answer)
     } else {
-        lines::bad_line(out, 0)
+        crate::bad_line(out, 0)
     }
 }

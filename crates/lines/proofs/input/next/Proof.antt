@@ -1,11 +1,11 @@
 use mathlib.Core.Path.{refl, ap}
 use native.Mathlib.Omega.{arith}
 use borrow.Author.Tests.{lt-ltb, le-ltb}
-use Rattle.input_lines.specs.Input.{remains, onward}
-use Rattle.input_lines.specs.declared.Input.{Input}
+use Rattle.lines.specs.Input.{remains, onward}
+use Rattle.lines.specs.declared.input.Input.{Input}
 use borrow.Author.Needs.{needs}
-use Rattle.input_lines.proofs.next.Statement.{statement}
-use Rattle.input_lines.proofs.next.Tie as tie
+use Rattle.lines.proofs.input.next.Statement.{statement}
+use Rattle.lines.proofs.input.next.Tie as tie
 
 onward-in-requires : tie.Need-onward-in-requires
 onward-in-requires c κs = search needs

@@ -4,10 +4,10 @@ use lib.Seq.{length-take-le}
 use native.Mathlib.Omega.{arith}
 use Rattle.digits.specs.declared.Fed.{Fed}
 use Rattle.digits.proofs.Feeds.{fed-within}
-use Rattle.input_lines.specs.Input.{onward}
+use Rattle.lines.specs.Input.{onward}
 use borrow.Author.Needs.{needs}
-use Rattle.input_lines.proofs.onward_in.Statement.{statement}
-use Rattle.input_lines.proofs.onward_in.Tie as tie
+use Rattle.lines.proofs.input.onward_in.Statement.{statement}
+use Rattle.lines.proofs.input.onward_in.Tie as tie
 
 current-line-requires : tie.Need-current-line-requires
 current-line-requires c κs = search needs

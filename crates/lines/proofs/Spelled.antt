@@ -13,10 +13,10 @@ use Rattle.core.specs.Bytes.{splice}
 use Rattle.core_write.proofs.Puts.{length-splice, splice-read}
 use Rattle.digits.specs.Digits.{valueOf, blankLine, halfPut, refused, lineAfter, bytesAfter, evenLine, beforeFeed, lineAfterAll, bytesAfterAll}
 use Rattle.digits.specs.declared.Line.{Line}
 use Rattle.lines.specs.Answers.{sectionLine}
 use Rattle.lines.specs.Hexadecimal.{digitOf, digitsOf, hexadecimal}
 use Rattle.strip_records.specs.Typed.{Below}
-use Rattle.line_answers.specs.Answered.{answerOf, answerTo}
+use Rattle.lines.specs.Answered.{answerOf, answerTo}
 
 -- ---- a digit
 

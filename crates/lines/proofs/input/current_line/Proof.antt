@@ -1,7 +1,7 @@
-use Rattle.input_lines.specs.Input.{current}
+use Rattle.lines.specs.Input.{current}
 use borrow.Author.Needs.{needs}
-use Rattle.input_lines.proofs.current_line.Statement.{statement}
-use Rattle.input_lines.proofs.current_line.Tie as tie
+use Rattle.lines.proofs.input.current_line.Statement.{statement}
+use Rattle.lines.proofs.input.current_line.Tie as tie
 
 blank-line-requires : tie.Need-blank-line-requires
 blank-line-requires c κs = search needs

@@ -1,12 +1,12 @@
 use mathlib.Core.Path.{sym, _∙_}
 use lib.Seq.{length-take-le}
 use native.Mathlib.Omega.{arith}
 use Rattle.lines.proofs.Sized.{put-sized}
-use Rattle.line_answers.specs.Answered.{answerTo}
-use Rattle.line_answers.proofs.Even.{even-within}
+use Rattle.lines.specs.Answered.{answerTo}
+use Rattle.lines.proofs.Even.{even-within}
 use borrow.Author.Needs.{needs}
-use Rattle.line_answers.proofs.line_answered.Statement.{statement}
-use Rattle.line_answers.proofs.line_answered.Tie as tie
+use Rattle.lines.proofs.answered.line_answered.Statement.{statement}
+use Rattle.lines.proofs.answered.line_answered.Tie as tie
 
 spells-requires : tie.Need-spells-requires
 spells-requires c κs = search needs

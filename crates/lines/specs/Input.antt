@@ -7,7 +7,7 @@ use lib.Dec.{ltb, eqb}
 use Rattle.digits.specs.Digits.{blankLine, fed}
 use Rattle.digits.specs.declared.Fed.{Fed}
 use Rattle.digits.specs.declared.Line.{Line}
-use Rattle.input_lines.specs.declared.Input.{Input}
+use Rattle.lines.specs.declared.input.Input.{Input}
 
 unfoldable pub begun : Input
 begun = record { line = blankLine; ended = false; more = true; at = 0; count = 0 }

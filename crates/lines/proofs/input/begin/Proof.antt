@@ -1,7 +1,7 @@
-use Rattle.input_lines.specs.Input.{begun}
+use Rattle.lines.specs.Input.{begun}
 use borrow.Author.Needs.{needs}
-use Rattle.input_lines.proofs.begin.Statement.{statement}
-use Rattle.input_lines.proofs.begin.Tie as tie
+use Rattle.lines.proofs.input.begin.Statement.{statement}
+use Rattle.lines.proofs.input.begin.Tie as tie
 
 blank-line-requires : tie.Need-blank-line-requires
 blank-line-requires c κs = search needs

@@ -1,2 +1,0 @@
-pub mod Even
-pub mod Spelled

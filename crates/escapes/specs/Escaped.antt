@@ -26,9 +26,13 @@ hidden s i = ltb 0 (hiddenWidth (drop i s)) || (ltb 1 (hiddenWidth (drop (i - 1)
 unfoldable pub hexDigit : ℕ → ℕ
 hexDigit d = cond (ltb d 10) (48 + d) (55 + d)
 
+-- the two digits of a byte, the high half first
+abbrev pub hexDigits : ℕ → List ℕ
+hexDigits b = hexDigit (b / 16 % 16) ∷ hexDigit (b % 16) ∷ []
+
 -- \xHH
 unfoldable pub writtenOut : ℕ → List ℕ
-writtenOut b = 0x5C ∷ 0x78 ∷ hexDigit (b / 16 % 16) ∷ hexDigit (b % 16) ∷ []
+writtenOut b = 0x5C ∷ 0x78 ∷ hexDigits b
 
 -- a byte as it is shown: written out, with a backslash before it (a quote, a backslash), or as it is
 unfoldable pub shown : Bool → ℕ → List ℕ

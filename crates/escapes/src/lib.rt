@@ -6,7 +6,7 @@ ghost use mathlib.Core.Bool.{cond};
 ghost use lib.Dec.{leb};
 ghost use lib.ListN.{length, getD};
 ghost use Rattle.core.specs.Bytes.{Room, Put};
-ghost use Rattle.escapes.specs.Escaped.{control, hiddenWidth, hexDigit, writtenOut, shown, escaped};
+ghost use Rattle.escapes.specs.Escaped.{control, hiddenWidth, hexDigit, hexDigits, writtenOut, shown, escaped};
 ghost use Rattle.escapes.specs.Escaped.{hidden as Escaped·hidden};
 use core_write::writer::put_bytes;
 
@@ -69,15 +69,24 @@ fn hex_digit(d: u8) -> u8
     if d < 10 { 48 + d } else { 55 + d }
 }
 
+// The two digits of a byte, the high half first.
+pub fn put_hex_digits(out: &mut [u8], p: usize, b: u8) -> usize
+    requires { ⌜ Room (now out) p 2 ⌝ }
+    ensures { λ r. ⌜ Put (now (out .entry)) p 2 (hexDigits b) r (now (out .exit)) ⌝ }
+{
+    let high = hex_digit(b / 16 % 16);
+    let low = hex_digit(b % 16);
+    let two = [high, low];
+    put_bytes(out, p, &two)
+}
+
 // `\xHH`
 fn put_written_out(out: &mut [u8], p: usize, b: u8) -> usize
     requires { ⌜ Room (now out) p 4 ⌝ }
     ensures { λ r. ⌜ Put (now (out .entry)) p (length (writtenOut b)) (writtenOut b) r (now (out .exit)) ⌝ }
 {
-    let high = hex_digit(b / 16 % 16);
-    let low = hex_digit(b % 16);
-    let four = [b'\\', b'x', high, low];
-    put_bytes(out, p, &four)
+    let q = put_bytes(out, p, b"\\x");
+    put_hex_digits(out, q, b)
 }
 
 fn put_shown(out: &mut [u8], p: usize, hide: bool, b: u8) -> usize

@@ -4,9 +4,10 @@ use native.Mathlib.Omega.{arith}
 use mathlib.Core.List.{[], _∷_}
 use Rattle.core.specs.declared.error.Refusal.the-variants.{UnexpectedEof}
 use Rattle.strip_header.specs.declared.Section.the-variants.{End, Passed, Pane, Refused}
+use Rattle.escapes.specs.Escaped.{hexDigit}
 use Rattle.lines.specs.Answers.{ascii, figure, refusalText, sectionText, sectionLine}
 use Rattle.lines.specs.Decimal.{decimalIn, decimal}
-use Rattle.lines.specs.Hexadecimal.{digitOf, digitsOf, hexadecimal}
+use Rattle.lines.specs.Hexadecimal.{hexadecimal}
 use Rattle.lines.proofs.Decimals.{fewest-decimal}
 
 nought : decimal 0 ≡ ascii "0"
@@ -33,5 +34,5 @@ most : decimal 18446744073709551615 ≡ ascii "18446744073709551615"
 most = sym (fewest-decimal 18446744073709551615 20 (omega arith, omega arith, λ _. omega arith))
 
 bytes : hexadecimal (0 ∷ 9 ∷ 160 ∷ 255 ∷ []) ≡ ascii "0009A0FF"
-unfolding hexadecimal digitsOf digitOf
+unfolding hexadecimal hexDigit
 bytes = refl

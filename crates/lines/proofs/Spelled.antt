@@ -13,38 +13,39 @@ use Rattle.core.specs.Bytes.{splice}
 use Rattle.core_write.proofs.Puts.{length-splice, splice-read}
 use Rattle.digits.specs.Digits.{valueOf, blankLine, halfPut, refused, lineAfter, bytesAfter, evenLine, beforeFeed, lineAfterAll, bytesAfterAll}
 use Rattle.digits.specs.declared.Line.{Line}
+use Rattle.escapes.specs.Escaped.{hexDigit, hexDigits}
 use Rattle.lines.specs.Answers.{sectionLine}
-use Rattle.lines.specs.Hexadecimal.{digitOf, digitsOf, hexadecimal}
+use Rattle.lines.specs.Hexadecimal.{hexadecimal}
 use Rattle.strip_records.specs.Typed.{Below}
 use Rattle.lines.specs.Answered.{answerOf, answerTo}
 
 -- ---- a digit
 
-value-by : (v : ℕ) → v < 16 → Dec (v < 10) → valueOf (digitOf v) ≡ v
-unfolding valueOf digitOf
+value-by : (v : ℕ) → v < 16 → Dec (v < 10) → valueOf (hexDigit v) ≡ v
+unfolding valueOf hexDigit
 value-by v h (yes l) =
     let d : 48 + v < 58 = omega arith in
     simp (lt-ltb v 10 l, le-ltb (48 + v) 48 (omega arith), le-leb (48 + v) 57 (omega arith)) (omega arith)
 value-by v h (no l) =
     let g : 10 ≤ v = omega arith in
-    simp (le-ltb v 10 g, le-ltb (65 + (v - 10)) 48 (omega arith), lt-leb (65 + (v - 10)) 57 (omega arith), le-ltb (65 + (v - 10)) 65 (omega arith), le-leb (65 + (v - 10)) 70 (omega arith)) (omega arith)
+    simp (le-ltb v 10 g, le-ltb (55 + v) 48 (omega arith), lt-leb (55 + v) 57 (omega arith), le-ltb (55 + v) 65 (omega arith), le-leb (55 + v) 70 (omega arith)) (omega arith)
 
-value-digit : (v : ℕ) → v < 16 → valueOf (digitOf v) ≡ v
+value-digit : (v : ℕ) → v < 16 → valueOf (hexDigit v) ≡ v
 value-digit v h = value-by v h (decLt v 10)
 
 -- a line of so many digits, none of them bad
 abbrev lineAt : ℕ → Bool → Line
 lineAt d g = record { digits = d; begun = g; bad = false }
 
-taken : (d v : ℕ) (g : Bool) → v < 16 → d < 8192 → refused (lineAt d g) (digitOf v) ≡ false
+taken : (d v : ℕ) (g : Bool) → v < 16 → d < 8192 → refused (lineAt d g) (hexDigit v) ≡ false
 unfolding refused
 taken d v g h i = simp (value-digit v h, le-ltb 15 v (omega arith), lt-leb 8192 d i)
 
-line-taken : (d v : ℕ) (g : Bool) → v < 16 → d < 8192 → lineAfter (lineAt d g) (digitOf v) ≡ lineAt (d + 1) true
+line-taken : (d v : ℕ) (g : Bool) → v < 16 → d < 8192 → lineAfter (lineAt d g) (hexDigit v) ≡ lineAt (d + 1) true
 unfolding lineAfter
 line-taken d v g h i = simp (taken d v g h i)
 
-bytes-taken : (o : List ℕ) (d v : ℕ) (g : Bool) → v < 16 → d < 8192 → bytesAfter o (lineAt d g) (digitOf v) ≡ halfPut o (d / 2) (eqb (d % 2) 0) v
+bytes-taken : (o : List ℕ) (d v : ℕ) (g : Bool) → v < 16 → d < 8192 → bytesAfter o (lineAt d g) (hexDigit v) ≡ halfPut o (d / 2) (eqb (d % 2) 0) v
 unfolding bytesAfter
 bytes-taken o d v g h i = simp (taken d v g h i, value-digit v h)
 
@@ -65,26 +66,26 @@ low-half o i d v w e h =
 -- ---- a byte, and many
 
 -- a byte's two digits, and a text after them
-byte-line : (d x : ℕ) (g : Bool) (t : List ℕ) → x < 256 → d + 1 < 8192 → lineAfterAll (lineAt d g) (digitsOf x ++ t) ≡ lineAfterAll (lineAt (d + 1 + 1) true) t
-unfolding lineAfterAll digitsOf
+byte-line : (d x : ℕ) (g : Bool) (t : List ℕ) → x < 256 → d + 1 < 8192 → lineAfterAll (lineAt d g) (hexDigits x ++ t) ≡ lineAfterAll (lineAt (d + 1 + 1) true) t
+unfolding lineAfterAll
 byte-line d x g t h i =
-    ap (λ (l : Line). lineAfterAll (lineAfter l (digitOf (x % 16))) t) (line-taken d (x / 16) g (omega arith) (omega arith))
+    ap (λ (l : Line). lineAfterAll (lineAfter l (hexDigit (x % 16))) t) (line-taken d (x / 16 % 16) g (omega arith) (omega arith))
     ∙ ap (λ (l : Line). lineAfterAll l t) (line-taken (d + 1) (x % 16) true (omega arith) i)
 
 byte-bytes : (o : List ℕ) (i d x : ℕ) (g : Bool) → x < 256 → d ≡ 2 * i → d + 1 < 8192 → i < length o
-    → bytesAfter (bytesAfter o (lineAt d g) (digitOf (x / 16))) (lineAt (d + 1) true) (digitOf (x % 16)) ≡ set o i x
+    → bytesAfter (bytesAfter o (lineAt d g) (hexDigit (x / 16 % 16))) (lineAt (d + 1) true) (hexDigit (x % 16)) ≡ set o i x
 byte-bytes o i d x g h e m r =
-    let whole : x / 16 * 16 + x % 16 ≡ x = omega arith in
-    ap (λ (s : List ℕ). bytesAfter s (lineAt (d + 1) true) (digitOf (x % 16))) (bytes-taken o d (x / 16) g (omega arith) (omega arith) ∙ high-half o i d (x / 16) e r)
-    ∙ bytes-taken (set o i (x / 16 * 16)) (d + 1) (x % 16) true (omega arith) m
-    ∙ low-half o i (d + 1) (x / 16) (x % 16) (omega arith) r
+    let whole : x / 16 % 16 * 16 + x % 16 ≡ x = omega arith in
+    ap (λ (s : List ℕ). bytesAfter s (lineAt (d + 1) true) (hexDigit (x % 16))) (bytes-taken o d (x / 16 % 16) g (omega arith) (omega arith) ∙ high-half o i d (x / 16 % 16) e r)
+    ∙ bytes-taken (set o i (x / 16 % 16 * 16)) (d + 1) (x % 16) true (omega arith) m
+    ∙ low-half o i (d + 1) (x / 16 % 16) (x % 16) (omega arith) r
     ∙ ap (set o i) whole
 
 byte-all : (o : List ℕ) (i d x : ℕ) (g : Bool) (t : List ℕ) → x < 256 → d ≡ 2 * i → d + 1 < 8192 → i < length o
-    → bytesAfterAll o (lineAt d g) (digitsOf x ++ t) ≡ bytesAfterAll (set o i x) (lineAt (d + 1 + 1) true) t
-unfolding bytesAfterAll digitsOf
+    → bytesAfterAll o (lineAt d g) (hexDigits x ++ t) ≡ bytesAfterAll (set o i x) (lineAt (d + 1 + 1) true) t
+unfolding bytesAfterAll
 byte-all o i d x g t h e m r =
-    let first = line-taken d (x / 16) g (omega arith) (omega arith) in
+    let first = line-taken d (x / 16 % 16) g (omega arith) (omega arith) in
     let second = line-taken (d + 1) (x % 16) true (omega arith) m in
     rw (first, second, byte-bytes o i d x g h e m r)
 
@@ -106,22 +107,22 @@ bytes-all (x ∷ s) o i d g b e m r =
 
 -- ---- the line feed
 
-other-by : (v : ℕ) → Dec (v < 10) → digitOf v ≡ 10 → ⊥
-unfolding digitOf
+other-by : (v : ℕ) → Dec (v < 10) → hexDigit v ≡ 10 → ⊥
+unfolding hexDigit
 other-by v (yes l) e = let f = simp (lt-ltb v 10 l) at e in omega arith
 other-by v (no l) e =
     let g : 10 ≤ v = omega arith in
     let f = simp (le-ltb v 10 g) at e in
     omega arith
 
-other : (v : ℕ) → eqb (digitOf v) 10 ≡ false
-other v = ne-eqb (digitOf v) 10 (other-by v (decLt v 10))
+other : (v : ℕ) → eqb (hexDigit v) 10 ≡ false
+other v = ne-eqb (hexDigit v) 10 (other-by v (decLt v 10))
 
 -- the digits of s are what stands before the line feed after them
 pub spelled-line : (s rest : List ℕ) → beforeFeed (hexadecimal s ++ (10 ∷ rest)) ≡ hexadecimal s
-unfolding hexadecimal digitsOf beforeFeed
+unfolding hexadecimal beforeFeed
 spelled-line [] rest = refl
-spelled-line (x ∷ s) rest = simp (other (x / 16), other (x % 16), spelled-line s rest)
+spelled-line (x ∷ s) rest = simp (other (x / 16 % 16), other (x % 16), spelled-line s rest)
 
 -- ---- the answer
 

@@ -5,14 +5,14 @@ pub mod input;
 
 use core::error::Refusal;
 use core_write::writer::put_bytes;
+use escapes::put_hex_digits;
 use strip_header::Section;
-ghost use mathlib.Core.Path.{_≡_};
-ghost use Prim.Native.Nat.{_+_, _*_, _≤_, _<_};
+ghost use Prim.Native.Nat.{_+_, _*_, _≤_};
 ghost use lib.ListN.{length};
 ghost use Rattle.core.specs.Bytes.{Room, Put};
 ghost use Rattle.lines.specs.Decimal.{decimal};
 ghost use Rattle.lines.specs.Answers.{figure, refusalText, sectionText, sectionLine, badText};
-ghost use Rattle.lines.specs.Hexadecimal.{digitOf, digitsOf, hexadecimal};
+ghost use Rattle.lines.specs.Hexadecimal.{hexadecimal};
 
 // ---- numbers
 
@@ -109,25 +109,6 @@ pub fn bad_line(out: &mut [u8], p: usize) -> usize
 
 // ---- bytes
 
-fn digit_of(v: u8) -> u8
-    requires { ⌜ v < 16 ⌝ }
-    ensures { λ r. ⌜ r ≡ digitOf v ⌝ }
-{
-    if v < 10 { b'0' + v } else { b'A' + (v - 10) }
-}
-
-fn put_digits(out: &mut [u8], p: usize, b: u8) -> usize
-    requires { ⌜ Room (now out) p 2 ⌝ }
-    ensures { λ r. ⌜ Put (now (out .entry)) p 2 (digitsOf b) r (now (out .exit)) ⌝ }
-{
-    let high = digit_of(b / 16);
-    let low = digit_of(b % 16);
-    out[p] = high;
-    let q = p + 1;
-    out[q] = low;
-    q + 1
-}
-
 // Bytes as hexadecimal digits, two a byte.
 pub fn put_hexadecimal(out: &mut [u8], p: usize, s: &[u8]) -> usize
     requires { ⌜ Room (now out) p (2 * length (now s)) ⌝ }
@@ -136,7 +117,7 @@ pub fn put_hexadecimal(out: &mut [u8], p: usize, s: &[u8]) -> usize
     let mut q = p;
     let mut i = 0;
     while i < s.len() {
-        q = put_digits(out, q, s[i]);
+        q = put_hex_digits(out, q, s[i]);
         i += 1;
     }
     q

@@ -20,11 +20,11 @@ loop-holds : tie.Need-loop-holds Inv-loop μ-loop
 unfolding hexadecimal
 loop-holds c = (omega arith, put-none _ _)
 
-shared-slice-read-put-digits : tie.Need-shared-slice-read-put-digits Inv-loop μ-loop
-shared-slice-read-put-digits c = omega arith
+shared-slice-read-put-hex-digits : tie.Need-shared-slice-read-put-hex-digits Inv-loop μ-loop
+shared-slice-read-put-hex-digits c = omega arith
 
-put-digits-requires : tie.Need-put-digits-requires Inv-loop μ-loop
-put-digits-requires c κs = omega arith
+put-hex-digits-requires : tie.Need-put-hex-digits-requires Inv-loop μ-loop
+put-hex-digits-requires c κs = omega arith
 
 add-i : tie.Need-add-i Inv-loop μ-loop
 add-i c = omega arith
@@ -37,7 +37,7 @@ loop-again c =
     let l = c .before .before .before .before .before .before in
     let s = l .before .before .before .args .s .now in
     let below : l .loop .i < length s = omega arith in
-    (omega arith, put-as (omega arith) (sym (hexadecimal-more s (l .loop .i) below)) (l .loop .inv .1 then c .before .before .put-digits .ensures))
+    (omega arith, put-as (omega arith) (sym (hexadecimal-more s (l .loop .i) below)) (l .loop .inv .1 then c .before .before .put-hex-digits .ensures))
 
 same-length : tie.Need-same-length Inv-loop μ-loop
 same-length c = omega arith
@@ -56,8 +56,8 @@ put-hexadecimal-spec =
     Inv-loop
     μ-loop
     loop-holds
-    shared-slice-read-put-digits
-    put-digits-requires
+    shared-slice-read-put-hex-digits
+    put-hex-digits-requires
     add-i
     loop-less
     loop-again

@@ -18,6 +18,7 @@ use Rattle.lines.specs.Answers.{sectionLine}
 use Rattle.lines.specs.Hexadecimal.{hexadecimal}
 use Rattle.strip_records.specs.Typed.{Below}
 use Rattle.lines.specs.Answered.{answerOf, answerTo}
+use Rattle.lines.specs.Back.{backLine, backTo}
 
 -- ---- a digit
 
@@ -139,11 +140,20 @@ module _ (s o : List ℕ) (b : Below 256 s) (short : length s ≤ 4096) (room : 
       let long : leb (d / 2) n ≡ true = le-leb (d / 2) n (omega arith) in
       simp (l .1, even, long)
 
+  half : lineAfterAll blankLine (hexadecimal s) .digits / 2 ≡ length s
+  unfolding blankLine
+  half = let l = line-all s 0 false b (omega arith) in omega (arith, l .0)
+
+  filled : take (length s) (bytesAfterAll o blankLine (hexadecimal s)) ≡ s
+  unfolding blankLine
+  filled = ap (take (length s)) (bytes-all s o 0 0 false b refl (omega arith) (omega arith)) ∙ splice-read o 0 s (omega arith)
+
   -- the digits of s, from the line's begin on, in a buffer with room, print the answer of s
   pub spelled-answer : answerTo (bytesAfterAll o blankLine (hexadecimal s)) (lineAfterAll blankLine (hexadecimal s)) ≡ sectionLine (answerOf s)
-  unfolding answerTo blankLine
-  spelled-answer =
-      let l = line-all s 0 false b (omega arith) in
-      let half : lineAfterAll (lineAt 0 false) (hexadecimal s) .digits / 2 ≡ length s = omega (arith, l .0) in
-      let read : take (length s) (bytesAfterAll o (lineAt 0 false) (hexadecimal s)) ≡ s = ap (take (length s)) (bytes-all s o 0 0 false b refl (omega arith) (omega arith)) ∙ splice-read o 0 s (omega arith) in
-      simp (spells, half, read)
+  unfolding answerTo
+  spelled-answer = simp (spells, half, filled)
+
+  -- and with a pane written back, the line of s
+  pub spelled-back : backTo (bytesAfterAll o blankLine (hexadecimal s)) (lineAfterAll blankLine (hexadecimal s)) ≡ backLine s
+  unfolding backTo
+  spelled-back = simp (spells, half, filled)

@@ -1,7 +1,9 @@
 // What the programs print, put into lent bytes at a place: a number's decimal digits, the answers with their line feed, bytes in hexadecimal.
 // Each answers the place after what it put, and changes no other byte.
 pub mod answered;
+pub mod back;
 pub mod input;
+pub mod program;
 
 use core::error::Refusal;
 use core_write::writer::put_bytes;

@@ -8,22 +8,16 @@ use Rattle.core_checks.specs.declared.checks.Written.{Written}
 use Rattle.core_checks.specs.declared.checks.Written.the-variants as Writtens
 use Rattle.digits.specs.Digits.{evenLine}
 use Rattle.digits.specs.declared.Line.{Line}
-use Rattle.text_box_caption.specs.Caption.{labelOf}
 use Rattle.strip_header.specs.declared.Section.{Section}
 use Rattle.strip_header.specs.declared.Section.the-variants.{End, Passed, Pane, Refused}
-use Rattle.strip_records.specs.Whole.{Lists, Whole}
-use Rattle.strip_records.specs.declared.record.Record.{Record}
+use Rattle.strip_records.specs.Whole.{Whole}
 use Rattle.strip_read.specs.Read.{readSection, listsAfter}
 use Rattle.strip_read.specs.declared.read.SectionRead.{SectionRead}
 use Rattle.strip_write.specs.Write.{writeAnswer, writeOutput}
-use Rattle.strip.specs.Same.{filled}
+use Rattle.strip.specs.Same.{readWhole}
 use Rattle.lines.specs.Answers.{ascii, refusalText, sectionText, badText}
 use Rattle.lines.specs.Answered.{fullLists}
 use Rattle.lines.specs.Hexadecimal.{hexadecimal}
-
--- what a write is handed of a record that was read of s: as many numbers of each list as it counts, and its label
-abbrev pub handed : List ℕ → Record → Lists → Whole
-handed s r l = record { pane = r; lists = filled r l; label = labelOf s (r .«text_box» .label) }
 
 -- a space, and the output o up to the end of what was written, or the refusal of the write
 unfoldable pub writtenText : Written → List ℕ → List ℕ
@@ -41,11 +35,11 @@ backAfter (Passed next) w = []
 backAfter (Pane end next reach) w = backIn (replicate 32768 0) w
 backAfter (Refused why) w = []
 
--- the line of the section at place 0 of s
+-- the line of the section at place 0 of s; what is written back is the pane as the read gives it, with as many numbers of each list as it counts
 unfoldable pub backLine : List ℕ → List ℕ
 backLine s =
     let r : SectionRead = readSection Little s 0 fullLists in
-    sectionText (r .answer) ++ backAfter (r .answer) (handed s (r .«record») (listsAfter Little s 0 fullLists)) ++ ascii "\n"
+    sectionText (r .answer) ++ backAfter (r .answer) (readWhole s (r .«record») (listsAfter Little s 0 fullLists)) ++ ascii "\n"
 
 -- what a line prints whose digits have filled these bytes: two digits a byte, or it spells none
 unfoldable pub backTo : List ℕ → Line → List ℕ

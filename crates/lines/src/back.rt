@@ -11,7 +11,8 @@ ghost use Prim.Native.Nat.{ℕ, _+_, _≤_};
 ghost use lib.ListN.{length, replicate};
 ghost use Rattle.core.specs.Bytes.{Room, Put};
 ghost use Rattle.strip_records.specs.Whole.{lists, Full};
-ghost use Rattle.lines.specs.Back.{handed, writtenText, backIn, backAfter, backLine, backTo};
+ghost use Rattle.strip.specs.Same.{readWhole};
+ghost use Rattle.lines.specs.Back.{writtenText, backIn, backAfter, backLine, backTo};
 
 // A space, then the bytes of the section that was written, or the refusal of its write.
 fn put_written(out: &mut [u8], p: usize, written: Written, section: &[u8]) -> usize
@@ -38,7 +39,7 @@ fn put_back(
     frames: &[u16],
 ) -> usize
     requires { ⌜ Room (now out) p 65537 × Full (lists (now quads) (now units) (now lines) (now frames)) ⌝ }
-    ensures { λ e. ⌜ Put (now (out .entry)) p (length (backIn (replicate 32768 0) (handed (now («data» .entry)) r (lists (now (quads .entry)) (now (units .entry)) (now (lines .entry)) (now (frames .entry)))))) (backIn (replicate 32768 0) (handed (now («data» .entry)) r (lists (now (quads .entry)) (now (units .entry)) (now (lines .entry)) (now (frames .entry))))) e (now (out .exit)) ⌝ }
+    ensures { λ e. ⌜ Put (now (out .entry)) p (length (backIn (replicate 32768 0) (readWhole (now («data» .entry)) r (lists (now (quads .entry)) (now (units .entry)) (now (lines .entry)) (now (frames .entry)))))) (backIn (replicate 32768 0) (readWhole (now («data» .entry)) r (lists (now (quads .entry)) (now (units .entry)) (now (lines .entry)) (now (frames .entry))))) e (now (out .exit)) ⌝ }
     ensures { λ e. ⌜ e ≤ p + 65537 ⌝ }
 {
     let q = filled::quads_filled(r);
@@ -76,7 +77,7 @@ fn put_after(
     frames: &[u16],
 ) -> usize
     requires { ⌜ Room (now out) p 65537 × Full (lists (now quads) (now units) (now lines) (now frames)) ⌝ }
-    ensures { λ e. ⌜ Put (now (out .entry)) p (length (backAfter answer (handed (now («data» .entry)) r (lists (now (quads .entry)) (now (units .entry)) (now (lines .entry)) (now (frames .entry)))))) (backAfter answer (handed (now («data» .entry)) r (lists (now (quads .entry)) (now (units .entry)) (now (lines .entry)) (now (frames .entry))))) e (now (out .exit)) ⌝ }
+    ensures { λ e. ⌜ Put (now (out .entry)) p (length (backAfter answer (readWhole (now («data» .entry)) r (lists (now (quads .entry)) (now (units .entry)) (now (lines .entry)) (now (frames .entry)))))) (backAfter answer (readWhole (now («data» .entry)) r (lists (now (quads .entry)) (now (units .entry)) (now (lines .entry)) (now (frames .entry))))) e (now (out .exit)) ⌝ }
     ensures { λ e. ⌜ e ≤ p + 65537 ⌝ }
 {
     match answer {

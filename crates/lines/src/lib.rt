@@ -1,5 +1,6 @@
-// What the programs print, put into lent bytes at a place: a number's decimal digits, the answers with their line feed, bytes in hexadecimal.
-// Each answers the place after what it put, and changes no other byte.
+// What the programs read and print by lines. Here: a number's decimal digits, the answers with their line feed, bytes in hexadecimal, each put into lent bytes
+// at a place. Each answers the place after what it put, and changes no other byte. In the modules: lines of digits from standard input (input), what a line prints
+// (answered, and back with its pane written back), and the loop of a program that prints it (program).
 pub mod answered;
 pub mod back;
 pub mod input;

@@ -8,7 +8,7 @@ blank-line-requires c κs = search needs
 
 returns : tie.Need-returns
 unfolding begun
-returns c = cc
+returns c = rw (c .blank-line .ensures)
 
 pub begin-spec : {M : Type 1} → statement M
 begin-spec = tie.close (tie.spec blank-line-requires returns)

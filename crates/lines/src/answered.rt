@@ -9,7 +9,7 @@ ghost use Rattle.core.specs.Bytes.{Room, Put};
 ghost use Rattle.lines.specs.Answered.{answerOf, answerTo};
 
 // Reads the section at place 0, with lists at full length.
-pub fn section_answer(data: &[u8]) -> Section
+fn section_answer(data: &[u8]) -> Section
     ensures { λ r. ⌜ r ≡ answerOf (now («data» .entry)) ⌝ }
 {
     let mut quads = [0u32; 2040];

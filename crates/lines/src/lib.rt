@@ -1,9 +1,9 @@
 // What the programs read and print by lines. Here: a number's decimal digits, the answers with their line feed, bytes in hexadecimal, each put into lent bytes
 // at a place. Each answers the place after what it put, and changes no other byte. In the modules: lines of digits from standard input (input), what a line prints
 // (answered, and back with its pane written back), and the loop of a program that prints it (program).
-pub mod answered;
-pub mod back;
-pub mod input;
+mod answered;
+mod back;
+mod input;
 pub mod program;
 
 use core::error::Refusal;
@@ -79,7 +79,7 @@ fn put_pane(out: &mut [u8], p: usize, end: usize, next: usize, reach: usize) -> 
 }
 
 // `end`, `pass N`, `pane R N` or `no NUMBER a b`.
-pub fn put_answer(out: &mut [u8], p: usize, answer: Section) -> usize
+fn put_answer(out: &mut [u8], p: usize, answer: Section) -> usize
     requires { ⌜ Room (now out) p 65 ⌝ }
     ensures { λ r. ⌜ Put (now (out .entry)) p (length (sectionText answer)) (sectionText answer) r (now (out .exit)) ⌝ }
     ensures { λ r. ⌜ r ≤ p + 65 ⌝ }
@@ -93,7 +93,7 @@ pub fn put_answer(out: &mut [u8], p: usize, answer: Section) -> usize
 }
 
 // The same as a line, at most 66 bytes.
-pub fn answer_line(out: &mut [u8], p: usize, answer: Section) -> usize
+fn answer_line(out: &mut [u8], p: usize, answer: Section) -> usize
     requires { ⌜ Room (now out) p 66 ⌝ }
     ensures { λ r. ⌜ Put (now (out .entry)) p (length (sectionLine answer)) (sectionLine answer) r (now (out .exit)) ⌝ }
     ensures { λ r. ⌜ r ≤ p + 66 ⌝ }
@@ -103,7 +103,7 @@ pub fn answer_line(out: &mut [u8], p: usize, answer: Section) -> usize
 }
 
 // The line of one that spells no bytes.
-pub fn bad_line(out: &mut [u8], p: usize) -> usize
+fn bad_line(out: &mut [u8], p: usize) -> usize
     requires { ⌜ Room (now out) p 4 ⌝ }
     ensures { λ r. ⌜ Put (now (out .entry)) p 4 badText r (now (out .exit)) ⌝ }
 {
@@ -113,7 +113,7 @@ pub fn bad_line(out: &mut [u8], p: usize) -> usize
 // ---- bytes
 
 // Bytes as hexadecimal digits, two a byte.
-pub fn put_hexadecimal(out: &mut [u8], p: usize, s: &[u8]) -> usize
+fn put_hexadecimal(out: &mut [u8], p: usize, s: &[u8]) -> usize
     requires { ⌜ Room (now out) p (2 * length (now s)) ⌝ }
     ensures { λ r. ⌜ Put (now (out .entry)) p (2 * length (now (s .entry))) (hexadecimal (now (s .entry))) r (now (out .exit)) ⌝ }
 {

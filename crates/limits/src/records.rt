@@ -1,5 +1,5 @@
 // Records as an editor makes them, through what `pane`, `picture`, `text_box`, `window` and `strip` offer: a blank one, with what is set in it.
-// A write reads no count, label place or label length of a record. Here these are 7, which no read gives back.
+// A write reads no count, label place or label length of a record. Where they are set here they are 7, which no read gives back.
 use picture::PicturePane;
 use picture::ShapeIndex;
 use strip::kind::Kind;
@@ -13,7 +13,7 @@ use text_box::TextBoxPane;
 use window::WindowContent;
 
 // A blank record of a kind, with this reserve0.
-pub fn of_kind(kind: Kind, reserve0: u8) -> Record {
+pub(crate) fn of_kind(kind: Kind, reserve0: u8) -> Record {
     let blank = blank_record();
     let mut base = pane::blank_pane();
     base.flag_ex.reserve0 = reserve0;
@@ -32,7 +32,7 @@ pub fn of_kind(kind: Kind, reserve0: u8) -> Record {
 }
 
 // A picture with a shape index.
-pub fn picture_with(index: u32) -> Record {
+pub(crate) fn picture_with(index: u32) -> Record {
     let mut r = of_kind(Kind::Pic1, 31);
     let blank = r.picture;
     let vertex_colors = blank.vertex_colors;
@@ -47,7 +47,7 @@ pub fn picture_with(index: u32) -> Record {
 }
 
 // A window whose content has this material.
-pub fn window_with(material_index: u16) -> Record {
+pub(crate) fn window_with(material_index: u16) -> Record {
     let mut r = of_kind(Kind::Wnd1, 31);
     let mut window = r.window;
     let blank = window.content;
@@ -66,13 +66,13 @@ pub fn window_with(material_index: u16) -> Record {
 // ---- text boxes
 
 // What is set in a text box: with `transform` flag bit 6, with `scale` a font scale in place of a size.
-pub struct Parts {
-    pub text_length: u16,
-    pub text: Text,
-    pub label: Label,
-    pub line_table: LineTable,
-    pub transform: bool,
-    pub scale: bool,
+struct Parts {
+    text_length: u16,
+    text: Text,
+    label: Label,
+    line_table: LineTable,
+    transform: bool,
+    scale: bool,
 }
 
 fn measure_with(scale: bool) -> FontMeasure {
@@ -124,7 +124,7 @@ fn text_box_with(parts: Parts) -> TextBoxPane {
 }
 
 // A text box of these parts.
-pub fn of_parts(parts: Parts) -> Record {
+fn of_parts(parts: Parts) -> Record {
     let mut r = of_kind(Kind::Txt1, 31);
     let text_box = text_box_with(parts);
     r.text_box = text_box;
@@ -132,7 +132,7 @@ pub fn of_parts(parts: Parts) -> Record {
 }
 
 // A text, with no other part.
-pub fn text_of(text_length: u16) -> Record {
+pub(crate) fn text_of(text_length: u16) -> Record {
     of_parts(Parts {
         text_length,
         text: Text::Present,
@@ -144,7 +144,7 @@ pub fn text_of(text_length: u16) -> Record {
 }
 
 // A line table, with no other part.
-pub fn table_with(transform: bool) -> Record {
+pub(crate) fn table_with(transform: bool) -> Record {
     of_parts(Parts {
         text_length: 0,
         text: Text::Absent,
@@ -156,7 +156,7 @@ pub fn table_with(transform: bool) -> Record {
 }
 
 // A label, with no other part.
-pub fn labelled() -> Record {
+pub(crate) fn labelled() -> Record {
     of_parts(Parts {
         text_length: 0,
         text: Text::Absent,
@@ -171,7 +171,7 @@ pub fn labelled() -> Record {
 }
 
 // All three parts, and a font scale.
-pub fn whole() -> Record {
+pub(crate) fn whole() -> Record {
     of_parts(Parts {
         text_length: 65_535,
         text: Text::Present,

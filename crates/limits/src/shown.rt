@@ -1,4 +1,4 @@
-// What is shown of a record that was read: its frames, and what else is there that a blank record lacks.
+// What is shown of a record that was read: its frames; and where they are there, a shape index, the parts of a text box, a font scale, a content with a material.
 use crate::print;
 use crate::print_figure;
 use crate::print_named;
@@ -73,7 +73,7 @@ fn show_content(r: Record) {
     }
 }
 
-pub fn show(r: Record) {
+pub(crate) fn show(r: Record) {
     let window = r.window;
     print_named(b", frames", wide(window.frame_count));
     show_picture(r);

@@ -1,4 +1,4 @@
-// What the programs read and print by lines. Here: a number's decimal digits, the answers with their line feed, bytes in hexadecimal, each put into lent bytes
+// What the programs read and print by lines. Here: a number's decimal digits, the answers and their lines, bytes in hexadecimal, each put into lent bytes
 // at a place. Each answers the place after what it put, and changes no other byte. In the modules: lines of digits from standard input (input), what a line prints
 // (answered, and back with its pane written back), and the loop of a program that prints it (program).
 mod answered;
@@ -9,7 +9,7 @@ pub mod program;
 use core::error::Refusal;
 use core_write::writer::put_bytes;
 use escapes::put_hex_digits;
-use strip_header::Section;
+use strip::read::Section;
 ghost use Prim.Native.Nat.{_+_, _*_, _≤_};
 ghost use lib.ListN.{length};
 ghost use Rattle.core.specs.Bytes.{Room, Put};

@@ -3,8 +3,8 @@
 // Between the quotes a quote and a backslash have a backslash before them, and control characters are written as `\xHH`; so are, of a name, characters
 // that end a line, and of letters of no kind all bytes of 0x80 and above (crate `escapes`). So no name can make a line of its own.
 // The page is standard input. It lies on the stack, since a program has no other memory. So page takes 16,777,216 bytes, and no page is longer, where the
-// stack may have 25,165,824 or more (`ulimit -s 24576`), and 5,242,880 where it may have less, down to 5,767,168; 8,388,608 is the default. A longer page, a
-// smaller stack and an input that cannot be read are told by one line each, and nothing is walked. All lines go to standard output, and there is no exit status
+// stack may have 25,165,824 or more (`ulimit -s 24576`), and 5,242,880 where it may have less: 8,388,608 is the default, 5,767,168 (`ulimit -s 5632`) the least. A longer page,
+// a smaller stack and an input that cannot be read are told by one line each, and nothing is walked. All lines go to standard output, and there is no exit status
 // to tell them by: Rattle has none.
 mod line;
 
@@ -138,7 +138,7 @@ const SMALL_PAGE: usize = 5242880;
 const LARGE_STACK: i64 = 25165824;
 
 // The same for a small page, with 524,287 bytes for all else. Arguments and environment can take a quarter of a stack: from 7,340,032 bytes on, so by default too,
-// there is room for all of that, and below it for some 400,000 bytes.
+// there is room for all of that, and below it for at least some 400,000 bytes: with more of them the program ends with no line.
 const SMALL_STACK: i64 = 5767168;
 
 // An array is lent by its type, and not as a slice, for the check's sake: it then does not count the zeros. It has a byte more than the page, to tell a longer one.
@@ -175,8 +175,8 @@ fn has_room(number: usize) -> bool {
 
 // Takes the page in the first array that there is room for, of those up to this number, and says whether there is one.
 // It calls itself for the sake of the stack. The compiler (LLVM) may merge a function into its caller, arrays and all: the large array would lie on the stack
-// before the test, and end the program where there is no room. It does not do so where the caller calls itself and goes on after that, as here. The gate, with
-// the stack that is the default, would see it.
+// before the test, and end the program where there is no room. It does not do so where the caller calls itself and goes on after that, as here. The gate would see it,
+// since it runs page with the default stack; it does not try the large array.
 fn run_in_first(number: usize) -> bool {
     if number == 0 {
         return false;

@@ -1,4 +1,4 @@
--- The four lent lists in the proof by hand of `Walk::next`: at lifetimes 2 to 5 of its six.
+-- The four lent lists in a proof by hand: of `Walk::next`, where they are at lifetimes 2 to 5 of its six, and of callers that loop over it.
 use mathlib.Core.Path.{_≡_}
 use Prim.Native.Nat.{ℕ}
 use mathlib.Core.List.{List, [], _∷_}

@@ -24,7 +24,6 @@ use contract.Running.{givenOf, tables, tablesOf}
 use types.Kit.{group, Item, runs, anyQ, Sq, keep, feqL, Given, ‵, raw, _⊛_, ⋆, some, later, _$_, _∵_, !, qed, by, move, drop, use1, use2, use3, split, join, pick, rewrite, fsplit, fjoin, fpack, fpick, suffices, frame, await, done}
 use types.Part.{whole, sub, look-in, agg}
 use types.Tokens.{lft-new}
-use types.Tokens.{lft-new}
 use types.Run.{unit-lit, look, init, forget, stop, fld, from, load, lit, addr, hop, of-opd, bin, and-then, no-more, assigns, land, first, skips, blocks, branches, returns-within, enter, alloc1, alloc0, params1, pass1, pass0, free1, free0, Below, again, loops}
 use sound.WpLaws.{FmC, fmOf, WpFn-mono}
 use denote.RattleType.{RattleType, owns}

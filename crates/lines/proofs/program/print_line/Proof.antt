@@ -2,6 +2,7 @@ use mathlib.Core.Path.{sym}
 use lib.Seq.{length-take-le}
 use native.Mathlib.Omega.{arith}
 use borrow.Author.Needs.{needs}
+use Rattle.lines.specs.Printed.{printedInto}
 use Rattle.lines.proofs.program.print_line.Statement.{statement}
 use Rattle.lines.proofs.program.print_line.Tie as tie
 
@@ -23,9 +24,13 @@ same-length : tie.Need-same-length
 same-length c = search needs
 
 returns : tie.Need-returns
-returns c = search needs
+unfolding printedInto
+returns c =
+    let b = c .before .before .before .before .before .before .before in
+    rw (b .if1 .taken, c .before .before .before .before .line-printed .ensures .0 .bytes)
 
 returns-2 : tie.Need-returns-2
+unfolding printedInto
 returns-2 c = search needs
 
 pub print-line-spec : {M : Type 1} → statement M

@@ -1,7 +1,7 @@
 #!/usr/bin/env python3
 """Writes crates/hexadecimal/stdin and stdout: lines for the hexadecimal program and what it must print.
 
-Run in the repository's root. The answers come from `answer` below, a reading of document 01 that shares nothing with the Rattle code.
+Run in the repository's root. The answers come from `answer` below, a reading of document 01 and of document 02's Note 4 that shares nothing with the Rattle code.
 The last lines are those of docs/REFUSALS.md, each with the answer that the page states before it; `answer` must agree with the page.
 With --check nothing is written: it tells whether the stored files are those that would be, and exits with 1 if not.
 KINDS names the kinds that the strip has; letters of others are passed.
@@ -20,17 +20,22 @@ class No(Exception):
 
 
 class Reader:
-    """Reads at a place, with refusal 4 where bytes run out."""
+    """Reads at a place, with refusal 4 where bytes run out. `reach` is the first place past all bytes that were read; a seek alone leaves it."""
 
     def __init__(self, s, at):
-        self.s, self.at = s, at
+        self.s, self.at, self.reach = s, at, at
+
+    def take(self, count):
+        part = self.s[self.at : self.at + count]
+        self.at += count
+        if count:
+            self.reach = max(self.reach, self.at)
+        return part
 
     def number(self, width):
         if self.at + width > len(self.s):
             raise No(4, self.at, width)
-        v = int.from_bytes(self.s[self.at : self.at + width], "little")
-        self.at += width
-        return v
+        return int.from_bytes(self.take(width), "little")
 
     def numbers(self, count, width):
         for _ in range(count):
@@ -39,9 +44,15 @@ class Reader:
     def string(self, width):
         if self.at >= len(self.s):
             raise No(4, self.at, width)
-        part = self.s[self.at : self.at + width]
-        place, self.at = self.at, self.at + len(part)
-        return place, part.split(b"\0")[0]
+        place = self.at
+        return place, self.take(min(width, len(self.s) - place)).split(b"\0")[0]
+
+    def until_nul(self):
+        """A string and the NUL that ends it, which is read too."""
+        place, end = self.at, self.s.find(b"\0", self.at)
+        if end < 0:
+            raise No(5, place, 0)
+        return place, self.take(end + 1 - place)[:-1]
 
     def seek(self, to):
         if to > len(self.s):
@@ -86,10 +97,7 @@ def text_box(r, body, texts):
         r.numbers(length // 2, 2)
     if label:
         r.seek(body - 8 + label)
-        end = r.s.find(b"\0", r.at)
-        if end < 0:
-            raise No(5, r.at, 0)
-        texts.append((3, (r.at, r.s[r.at : end])))
+        texts.append((3, r.until_nul()))
     if flags >> 6 & 1 and lines:
         r.seek(body - 8 + lines)
         r.numbers(2 * r.number(1), 4)
@@ -146,6 +154,8 @@ def section(s):
             text.decode("utf-8")
         except UnicodeDecodeError:
             raise No(7, place, which)
+    if r.reach > size:
+        raise No(19, r.reach, size)
     return f"pane {r.at} {size}"
 
 
@@ -243,6 +253,37 @@ def lines():
         yield (line.hex() if rng.random() < 0.5 else line.hex().upper()).encode()
 
 
+def past():
+    """Panes whose parts end at the section's end, before it or behind it; offsets behind it where nothing is read; panes in which another refusal comes first."""
+    rng = random.Random(4)
+    frame = struct.pack("<I", 116) + bytes(4)
+    parts = {
+        "pan1": [pane_body(rest=rng.randbytes(40))],
+        "ali1": [pane_body(rest=rng.randbytes(52))],
+        "pic1": [pane_body() + bytes(18) + bytes([count, shape]) + rng.randbytes(32 * count + 4 * shape) for count, shape in ((0, 0), (0, 1), (1, 0), (2, 1))],
+        "txt1": [text_body(rng, text=168, length=7, tail=b"abcdef"), text_body(rng, label=169, tail=b"_label\0"), text_body(rng, label=171, tail=b"___\0"),
+                 text_body(rng, lines=170, flags=0x40, tail=b"__\x01" + rng.randbytes(8)), text_body(rng, lines=168, flags=0x40, tail=b"\0")],
+        "wnd1": [window_body(rng, 0, 112, 112, rng.randbytes(18) + b"\0\0"), window_body(rng, 0, 112, 112, rng.randbytes(18) + b"\x01\0" + rng.randbytes(32)),
+                 window_body(rng, 1, 8, 112, frame), window_body(rng, 1, 8, 113, b"_" + struct.pack("<I", 8)), window_body(rng, 0, 8, 110)],
+    }
+    for letters, bodies in parts.items():
+        for body in bodies:
+            reach = 8 + len(body)
+            for size in range(reach // 4 * 4 - 8, reach + 12, 4):
+                yield put(letters.encode(), body + bytes(16), size)
+    for offset in (168, 171, 172, 173):
+        yield put(b"txt1", text_body(rng, text=offset, length=1, tail=bytes(4)), 168)
+        yield put(b"wnd1", window_body(rng, 0, 8, offset - 56, bytes(4)), 112)
+    yield put(b"txt1", text_body(rng, label=168, tail=b"\xff\0"), 168)
+    yield put(b"txt1", text_body(rng, label=168, tail=b"\xff\xff"), 168)
+    yield put(b"txt1", text_body(rng, label=168, flags=0x10, character=9, tail=b"ab\0"), 168)
+    yield put(b"txt1", text_body(rng, text=168, length=6, tail=b"abcd"), 168)
+    yield put(b"txt1", text_body(rng, text=168, length=4, tail=b"\0\xd8\0\xd8"), 168)
+    yield put(b"ali1", pane_body(b"\xff", b"", bytes(52)), 8)
+    yield put(b"ali1", pane_body(b"", b"\xff", bytes(52)), 8)
+    yield put(b"usd1", pane_body(b"\xff", b"", bytes(52)), 8)
+
+
 def of_page(text):
     """The lines of hexadecimal in docs/REFUSALS.md, each with the answer that ends the paragraph before it: `no 4 0 4`:"""
     found = re.findall(r"`((?:no|pane|pass|end)[0-9 ]*)`:\n\n {4,6}([0-9A-F]+)\n", text)
@@ -251,13 +292,13 @@ def of_page(text):
         sys.exit("docs/REFUSALS.md: an indented line is no line of hexadecimal, or has no answer right before it")
     for stated, line in found:
         if answer(line.encode()) != stated:
-            sys.exit(f"docs/REFUSALS.md states {stated} where document 01 has {answer(line.encode())}: {line}")
+            sys.exit(f"docs/REFUSALS.md states {stated} where the documents have {answer(line.encode())}: {line}")
     return found
 
 
 def main():
     crate = Path("crates/hexadecimal")
-    every = list(lines())
+    every = list(lines()) + [section.hex().upper().encode() for section in past()]
     page = of_page(Path("docs/REFUSALS.md").read_text())
     given = b"\n".join(every + [line.encode() for _, line in page])
     asked = "".join(said + "\n" for said in [answer(line) for line in every] + [stated for stated, _ in page])

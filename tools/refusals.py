@@ -7,8 +7,9 @@ import re
 import sys
 
 TOP = pathlib.Path(__file__).resolve().parent.parent
-NAMES = ["TooLong", "BadPlace", "ShortList", "UnexpectedEof", "NoNul", "PerCharacter", "IllFormedUtf8", "SectionSize", "BadName", "Reserve0",
-         "ListLength", "BadFlip", "TextLength", "IllFormedUtf16", "NoLineBit", "OutputEnd"]
+NAMES = {1: "TooLong", 2: "BadPlace", 3: "ShortList", 4: "UnexpectedEof", 5: "NoNul", 6: "PerCharacter", 7: "IllFormedUtf8", 8: "SectionSize", 9: "BadName",
+         10: "Reserve0", 11: "ListLength", 12: "BadFlip", 13: "TextLength", 14: "IllFormedUtf16", 15: "NoLineBit", 16: "OutputEnd", 19: "PastSection"}
+PAGE = [4, 5, 6, 7, 8, 19]  # those that a walk over a page can give
 
 
 def bare(sentence):
@@ -18,7 +19,7 @@ def bare(sentence):
 
 def of_docs():
     rows = re.findall(r"^\| (\d+) \| ([^|]*) \|", (TOP / "docs/REFUSALS.md").read_text(), re.M)
-    return {NAMES[int(number) - 1]: sentence for number, sentence in rows}
+    return {NAMES[int(number)]: sentence for number, sentence in rows}
 
 
 def of_rust():
@@ -34,7 +35,7 @@ def of_page():
     found = {}
     for number, name in re.findall(r"eqb number (\d+)\) \((\w+)", text):
         parts = re.search(rf"^{name} [ab ]*= (.*)$", text, re.M).group(1)
-        found[NAMES[int(number) - 1]] = "".join(words or "{%s}" % figure for words, figure in re.findall(r'ascii "([^"]*)"|\w+ ([ab])\b', parts))
+        found[NAMES[int(number)]] = "".join(words or "{%s}" % figure for words, figure in re.findall(r'ascii "([^"]*)"|\w+ ([ab])\b', parts))
     return found
 
 
@@ -46,9 +47,9 @@ def with_figures(sentence):
 def main():
     named, rust, page = of_docs(), of_rust(), of_page()
     docs = {name: bare(sentence) for name, sentence in named.items()}
-    faults = [name for name in NAMES if docs.get(name) != rust.get(name)]
+    faults = [name for name in NAMES.values() if docs.get(name) != rust.get(name)]
     faults += [name for name in page if named.get(name) != with_figures(page[name])]
-    faults += [name for name in NAMES[3:8] if name not in page]
+    faults += [NAMES[number] for number in PAGE if NAMES[number] not in page]
     for name in faults:
         print(name, repr(named.get(name)), repr(rust.get(name)), repr(page.get(name)), sep="\n    ")
     print(f"{len(docs)} sentences of docs/REFUSALS.md, {len(rust)} of the Rust crate, {len(page)} of page, {len(faults)} differences")

@@ -1,9 +1,11 @@
 // The body calls of an alignment pane: any bytes are read or refused, any pane is written or refused.
 use alignment_fields::AlignmentPane;
+use alignment_fields::AlignmentTaken;
 use core::cursor::ByteOrder;
 use core::cursor::Place;
 use core::error::Refusal;
 use core_checks::checks;
+use core_checks::checks::Extent;
 use core_checks::checks::Parsed;
 use core_checks::checks::Written;
 use pane_checks::checks::names_checked;
@@ -16,7 +18,14 @@ ghost use lib.ListN.{length};
 ghost use Rattle.core_checks.specs.Checks.{parsedByNumber, writtenByNumber};
 ghost use Rattle.core.specs.Bytes.{Room, Put};
 ghost use Rattle.pane_read.specs.Pane.{Sound};
-ghost use Rattle.alignment.specs.Body.{Blank, encodeBody, alignmentRead, alignmentParsed, alignmentWriteChecked, alignmentWritten, alignmentOutput};
+ghost use Rattle.alignment.specs.Body.{Blank, encodeBody, alignmentMeasured, alignmentGiven, alignmentRead, alignmentParsed, alignmentWriteChecked, alignmentWritten, alignmentOutput};
+
+// A pane that was measured, and where the run stands then.
+pub struct AlignmentMeasured {
+    pub base: Pane,
+    pub own: AlignmentTaken,
+    pub then: Place,
+}
 
 // What a body read gives: its answer, and the pane, blank where it was refused.
 pub struct AlignmentParsed {
@@ -35,18 +44,35 @@ fn refused(why: Refusal) -> AlignmentParsed
     }
 }
 
-// The reads, and check 7.
-pub fn read(order: ByteOrder, data: &[u8], p: Place, place: usize) -> AlignmentParsed
+// All reads, check 7 and, in a section, check 19.
+pub fn measure(
+    order: ByteOrder,
+    data: &[u8],
+    p: Place,
+    place: usize,
+    extent: Extent,
+) -> AlignmentMeasured
     requires { ⌜ place < 2 ^ 32 ⌝ }
-    ensures { λ r. ⌜ r ≡ alignmentRead order (now («data» .entry)) p place ⌝ }
+    ensures { λ r. ⌜ r ≡ alignmentMeasured order (now («data» .entry)) p place extent ⌝ }
 {
     let taken = pane_read::take_pane(order, data, p);
     let base = taken.pane;
     let p1 = taken.then;
     let own = alignment_fields::take_alignment(order, data, p1);
-    let alignment = own.alignment;
     let p2 = own.then;
-    let then = texts_checked(p2, base, place);
+    let p3 = texts_checked(p2, base, place);
+    let then = checks::reach_checked(p3, extent);
+    AlignmentMeasured { base, own, then }
+}
+
+// What a read gives of what was measured.
+pub fn given(m: AlignmentMeasured) -> AlignmentParsed
+    ensures { λ r. ⌜ r ≡ alignmentGiven m ⌝ }
+{
+    let base = m.base;
+    let own = m.own;
+    let alignment = own.alignment;
+    let then = m.then;
     match then {
         Place::At(c) => {
             let answer = checks::read_to(c);
@@ -60,6 +86,21 @@ pub fn read(order: ByteOrder, data: &[u8], p: Place, place: usize) -> AlignmentP
     }
 }
 
+// The read in a buffer or in a section: measured, and given.
+pub fn read(
+    order: ByteOrder,
+    data: &[u8],
+    p: Place,
+    place: usize,
+    extent: Extent,
+) -> AlignmentParsed
+    requires { ⌜ place < 2 ^ 32 ⌝ }
+    ensures { λ r. ⌜ r ≡ alignmentRead order (now («data» .entry)) p place extent ⌝ }
+{
+    let m = measure(order, data, p, place, extent);
+    given(m)
+}
+
 // The alignment pane at a place: checks 1, 2, the reads with 4, then 7.
 pub fn parse(order: ByteOrder, data: &[u8], place: usize) -> AlignmentParsed
     ensures { λ r. ⌜ r ≡ alignmentParsed order (now («data» .entry)) place ⌝ }
@@ -67,7 +108,7 @@ pub fn parse(order: ByteOrder, data: &[u8], place: usize) -> AlignmentParsed
 {
     let p = checks::body_start(data.len(), place);
     match p {
-        Place::At(c) => read(order, data, Place::At(c), place),
+        Place::At(c) => read(order, data, Place::At(c), place, Extent::Buffer),
         Place::Refused(why) => refused(why),
     }
 }

@@ -1,8 +1,8 @@
--- Document 01's table of refusals, a row a refusal: the number, a and b. A figure that it does not name is 0.
+-- Document 01's table of refusals and those that document 02 adds, a row a refusal: the number, a and b. A figure that is not named there is 0.
 use mathlib.Core.Path.{_≡_, refl}
 use Prim.Native.Nat.{ℕ}
 use Rattle.core.specs.Refusals.{refused, refusalByNumber}
-use Rattle.core.specs.declared.error.Refusal.the-variants.{TooLong, BadPlace, ShortList, UnexpectedEof, NoNul, PerCharacter, IllFormedUtf8, SectionSize, BadName, Reserve0, ListLength, BadFlip, TextLength, IllFormedUtf16, NoLineBit, OutputEnd}
+use Rattle.core.specs.declared.error.Refusal.the-variants.{TooLong, BadPlace, ShortList, UnexpectedEof, NoNul, PerCharacter, IllFormedUtf8, SectionSize, BadName, Reserve0, ListLength, BadFlip, TextLength, IllFormedUtf16, NoLineBit, OutputEnd, PastSection}
 
 pub record Table : Type 0 where
   pub too-long : (length : ℕ) → refusalByNumber (TooLong length) ≡ refused 1 length 0
@@ -21,6 +21,7 @@ pub record Table : Type 0 where
   pub ill-formed-utf16 : (units : ℕ) → refusalByNumber (IllFormedUtf16 units) ≡ refused 14 units 0
   pub no-line-bit : refusalByNumber NoLineBit ≡ refused 15 0 0
   pub output-end : (end length : ℕ) → refusalByNumber (OutputEnd end length) ≡ refused 16 end length
+  pub past-section : (reach end : ℕ) → refusalByNumber (PastSection reach end) ≡ refused 19 reach end
 
 pub table : Table
 table = record {
@@ -40,4 +41,5 @@ table = record {
   ill-formed-utf16 = λ u. refl;
   no-line-bit = refl;
   output-end = λ e n. refl;
+  past-section = λ r e. refl;
 }

@@ -1,8 +1,8 @@
--- Document 01's number and figures of each refusal, in the order of its table. A figure that the table does not name is 0.
+-- The number and figures of each refusal: document 01's in the order of its table, then those that document 02 adds. A figure that is not named there is 0.
 use Prim.Native.Nat.{ℕ}
 use mathlib.Core.List.{List}
 use Rattle.core.specs.declared.error.Refusal.{Refusal}
-use Rattle.core.specs.declared.error.Refusal.the-variants.{TooLong, BadPlace, ShortList, UnexpectedEof, NoNul, PerCharacter, IllFormedUtf8, SectionSize, BadName, Reserve0, ListLength, BadFlip, TextLength, IllFormedUtf16, NoLineBit, OutputEnd}
+use Rattle.core.specs.declared.error.Refusal.the-variants.{TooLong, BadPlace, ShortList, UnexpectedEof, NoNul, PerCharacter, IllFormedUtf8, SectionSize, BadName, Reserve0, ListLength, BadFlip, TextLength, IllFormedUtf16, NoLineBit, OutputEnd, PastSection}
 
 abbrev pub numberOf : Refusal → ℕ
 numberOf (TooLong length) = 1
@@ -21,6 +21,7 @@ numberOf (TextLength units text) = 13
 numberOf (IllFormedUtf16 units) = 14
 numberOf NoLineBit = 15
 numberOf (OutputEnd end length) = 16
+numberOf (PastSection reach end) = 19
 
 abbrev pub figureA : Refusal → ℕ
 figureA (TooLong length) = length
@@ -39,6 +40,7 @@ figureA (TextLength units text) = units
 figureA (IllFormedUtf16 units) = units
 figureA NoLineBit = 0
 figureA (OutputEnd end length) = end
+figureA (PastSection reach end) = reach
 
 abbrev pub figureB : Refusal → ℕ
 figureB (TooLong length) = 0
@@ -57,6 +59,7 @@ figureB (TextLength units text) = text
 figureB (IllFormedUtf16 units) = 0
 figureB NoLineBit = 0
 figureB (OutputEnd end length) = length
+figureB (PastSection reach end) = end
 
 -- ---- an answer by number: what an accepted call answers, or the number of the row that refused it, with a and b
 

@@ -1,4 +1,4 @@
-// Why a call is refused: the rows of document 01's table, each with its figures.
+// Why a call is refused: the rows of document 01's table and those that document 02 adds, each with its figures.
 ghost use mathlib.Core.Path.{_≡_};
 ghost use Rattle.core.specs.Refusals.{numberOf, figureA, figureB};
 
@@ -19,10 +19,11 @@ pub enum Refusal {
     IllFormedUtf16 { units: usize },
     NoLineBit,
     OutputEnd { end: usize, length: usize },
+    PastSection { reach: usize, end: usize },
 }
 
 impl Refusal {
-    // Document 01's number.
+    // Document 01's number, or document 02's.
     pub fn number(self) -> usize
         ensures { λ r. ⌜ r ≡ numberOf self ⌝ }
     {
@@ -49,6 +50,7 @@ impl Refusal {
             Refusal::IllFormedUtf16 { units: _ } => 14,
             Refusal::NoLineBit => 15,
             Refusal::OutputEnd { end: _, length: _ } => 16,
+            Refusal::PastSection { reach: _, end: _ } => 19,
         }
     }
 
@@ -79,6 +81,7 @@ impl Refusal {
             Refusal::IllFormedUtf16 { units } => units,
             Refusal::NoLineBit => 0,
             Refusal::OutputEnd { end, length: _ } => end,
+            Refusal::PastSection { reach, end: _ } => reach,
         }
     }
 
@@ -109,6 +112,7 @@ impl Refusal {
             Refusal::IllFormedUtf16 { units: _ } => 0,
             Refusal::NoLineBit => 0,
             Refusal::OutputEnd { end: _, length } => length,
+            Refusal::PastSection { reach: _, end } => end,
         }
     }
 }

@@ -1,5 +1,5 @@
 -- What passed checks tell, and what lets a check pass.
-use mathlib.Core.Path.{_≡_, refl, ap}
+use mathlib.Core.Path.{_≡_, refl, sym, ap, _∙_}
 use Prim.Native.Nat.{ℕ, _+_, _*_, _%_, _≤_}
 use mathlib.Core.List.{List}
 use native.Mathlib.Omega.{arith}
@@ -7,10 +7,12 @@ use mathlib.Core.Bool.{Bool, true, false, _||_}
 use lib.Dec.{ltb}
 use borrow.Author.Tests.{ltb-false, le-ltb}
 use Rattle.core.specs.Taken.{start, stopIf}
-use Rattle.core_checks.specs.Checks.{lengthChecked, bodyChecked, sectionChecked, bodyStart, sectionStart, listChecked, countBad, countChecked, endChecked, unlessRefused, writtenOf, parsedByNumber, writtenByNumber}
+use Rattle.core_checks.specs.Checks.{lengthChecked, bodyChecked, sectionChecked, bodyStart, sectionStart, listChecked, countBad, countChecked, endChecked, reachChecked, unlessRefused, writtenOf, parsedByNumber, writtenByNumber}
 use Rattle.core.specs.Bytes.{splice, Put}
 use Rattle.core.specs.declared.error.Refusal.{Refusal}
-use Rattle.core.specs.declared.error.Refusal.the-variants.{OutputEnd}
+use Rattle.core.specs.declared.error.Refusal.the-variants.{OutputEnd, PastSection}
+use Rattle.core_checks.specs.declared.checks.Extent.{Extent}
+use Rattle.core_checks.specs.declared.checks.Extent.the-variants.{Buffer, Section}
 use Rattle.core_checks.specs.declared.checks.Parsed.{Parsed}
 use Rattle.core_checks.specs.declared.checks.Written.{Written}
 use Rattle.core_checks.specs.declared.checks.Written.the-variants as Writtens
@@ -59,6 +61,39 @@ count-cleared p list w n c e =
 pub end-cleared : (p : Place) (end n : ℕ) (c : Cursor) → endChecked p end n ≡ At c → (p ≡ At c) × (end ≤ n)
 unfolding endChecked
 end-cleared p end n c e = let h = cleared p _ _ c e in (h .0, ltb-false _ _ (h .1))
+
+-- 19: in any extent the run stood there before; in a section it kept to it
+pub reach-cleared : (p : Place) (x : Extent) (c : Cursor) → reachChecked p x ≡ At c → p ≡ At c
+unfolding reachChecked
+reach-cleared p Buffer c e = e
+reach-cleared (At d) (Section end) c e = cleared (At d) _ _ c e .0
+reach-cleared (Refused why) (Section end) c e = e
+
+pub reach-kept : (p : Place) (end : ℕ) (c : Cursor) → reachChecked p (Section end) ≡ At c → c .reach ≤ end
+unfolding reachChecked
+reach-kept (At d) end c e =
+    let h = cleared (At d) (ltb end (d .reach)) (PastSection (d .reach) end) c e in
+    let k : d ≡ c = cc (h .0) in
+    rw (← k) (ltb-false end (d .reach) (h .1))
+reach-kept (Refused why) end c e = let z : _≡_ {A = ℕ} 0 1 = cc in absurd (omega arith)
+
+pub reach-stays : (why : Refusal) (x : Extent) → reachChecked (Refused why) x ≡ Refused why
+unfolding reachChecked
+reach-stays why Buffer = refl
+reach-stays why (Section end) = refl
+
+-- the same check, as the code makes it
+module _ (p : Place) (x : Extent) where
+  pub reach-here : (c : Cursor) (end : ℕ) → p ≡ At c → x ≡ Section end → stopIf (At c) (ltb end (c .reach)) (PastSection (c .reach) end) ≡ reachChecked p x
+  unfolding reachChecked
+  reach-here c end e f = rw (e, f)
+
+  pub reach-free : (c : Cursor) → p ≡ At c → x ≡ Buffer → At c ≡ reachChecked p x
+  unfolding reachChecked
+  reach-free c e f = rw (e, f)
+
+  pub reach-refused : (why : Refusal) → p ≡ Refused why → Refused why ≡ reachChecked p x
+  reach-refused why e = sym (reach-stays why x) ∙ ap (λ (q : Place). reachChecked q x) (sym e)
 
 -- the last check, as the code makes it
 pub end-here : (p : Place) (end n : ℕ) (c : Cursor) → p ≡ At c → stopIf (At c) (ltb n end) (OutputEnd end n) ≡ endChecked p end n
@@ -114,6 +149,16 @@ list-passes c list need n h = passed c _ _ (le-ltb n need h)
 pub end-passes : (c : Cursor) (end n : ℕ) → end ≤ n → endChecked (At c) end n ≡ At c
 unfolding endChecked
 end-passes c end n h = passed c _ _ (le-ltb n end h)
+
+-- of any run, refused or not
+pub list-enough : (p : Place) (list need n : ℕ) → need ≤ n → listChecked p list need n ≡ p
+unfolding listChecked stopIf
+list-enough (At c) list need n h = rw (le-ltb n need h)
+list-enough (Refused why) list need n h = refl
+
+pub reach-passes : (c : Cursor) (end : ℕ) → c .reach ≤ end → reachChecked (At c) (Section end) ≡ At c
+unfolding reachChecked
+reach-passes c end h = passed c _ _ (le-ltb end (c .reach) h)
 
 -- ---- what a write answers, and the output after it
 

@@ -1,13 +1,15 @@
--- The checks that calls share, in the order of document 01's table, and what calls answer.
+-- The checks that calls share, in the order of document 01's table and then document 02's, and what calls answer.
 use Prim.Native.Nat.{ℕ, _*_, _%_}
 use mathlib.Core.Bool.{Bool, _||_}
 use mathlib.Core.List.{[], _∷_}
 use lib.Dec.{ltb}
 use Rattle.core.specs.Refusals.{ByNumber, accepted, refusalByNumber}
 use Rattle.core.specs.Taken.{start, stopIf}
-use Rattle.core.specs.declared.error.Refusal.the-variants.{TooLong, BadPlace, ShortList, ListLength, OutputEnd}
+use Rattle.core.specs.declared.error.Refusal.the-variants.{TooLong, BadPlace, ShortList, ListLength, OutputEnd, PastSection}
 use Rattle.core.specs.declared.cursor.Place.{Place}
 use Rattle.core.specs.declared.cursor.Place.the-variants.{At, Refused}
+use Rattle.core_checks.specs.declared.checks.Extent.{Extent}
+use Rattle.core_checks.specs.declared.checks.Extent.the-variants.{Buffer, Section}
 use Rattle.core_checks.specs.declared.checks.Parsed.{Parsed}
 use Rattle.core_checks.specs.declared.checks.Parsed.the-variants as Parseds
 use Rattle.core_checks.specs.declared.checks.Written.{Written}
@@ -46,6 +48,12 @@ countChecked p list width n = stopIf p (countBad width n) (ListLength list n)
 -- 16: the end passes the output's length n
 unfoldable pub endChecked : Place → ℕ → ℕ → Place
 endChecked p end n = stopIf p (ltb n end) (OutputEnd end n)
+
+-- 19, of a body that is read in a section that ends so: the first place past all bytes that it read is past that end. In a buffer nothing is checked
+unfoldable pub reachChecked : Place → Extent → Place
+reachChecked p Buffer = p
+reachChecked (At c) (Section end) = stopIf (At c) (ltb end (c .reach)) (PastSection (c .reach) end)
+reachChecked (Refused why) (Section end) = Refused why
 
 -- ---- what a run answers
 

@@ -5,7 +5,7 @@ use core::cursor::Place;
 use core::error::Refusal;
 ghost use mathlib.Core.Path.{_≡_};
 ghost use Prim.Native.Nat.{_+_, _^_, _≤_, _<_};
-ghost use Rattle.core_checks.specs.Checks.{lengthChecked, bodyChecked, sectionChecked, bodyStart, sectionStart, listChecked, countChecked, endChecked, parsedOf};
+ghost use Rattle.core_checks.specs.Checks.{lengthChecked, bodyChecked, sectionChecked, bodyStart, sectionStart, listChecked, countChecked, endChecked, reachChecked, parsedOf};
 
 // What a body read answers: the place after the body and how far it looked, or why not.
 pub enum Parsed {
@@ -17,6 +17,12 @@ pub enum Parsed {
 pub enum Written {
     End(usize),
     Refused(Refusal),
+}
+
+// What a body that is read may look at: all of the buffer, or its section up to the section's end.
+pub enum Extent {
+    Buffer,
+    Section { end: usize },
 }
 
 // A body read that was accepted, and ends at a cursor.
@@ -100,6 +106,26 @@ pub fn end_checked(p: Place, place: usize, width: usize, length: usize) -> Place
                 Refusal::OutputEnd { end, length },
             )
         }
+        Place::Refused(why) => Place::Refused(why),
+    }
+}
+
+// 19: a body that looked past its section.
+pub fn reach_checked(p: Place, extent: Extent) -> Place
+    ensures { λ r. ⌜ r ≡ reachChecked p extent ⌝ }
+{
+    match p {
+        Place::At(c) => match extent {
+            Extent::Section { end } => cursor::stop_if(
+                Place::At(c),
+                end < c.reach,
+                Refusal::PastSection {
+                    reach: c.reach,
+                    end,
+                },
+            ),
+            Extent::Buffer => Place::At(c),
+        },
         Place::Refused(why) => Place::Refused(why),
     }
 }

@@ -11,6 +11,8 @@ use Rattle.core.specs.declared.cursor.ByteOrder.{ByteOrder}
 use Rattle.core.specs.declared.cursor.Place.{Place}
 use Rattle.core.specs.declared.cursor.Place.the-variants.{At, Refused}
 use Rattle.core_checks.specs.Checks.{unlessRefused}
+use Rattle.core_checks.specs.declared.checks.Extent.{Extent}
+use Rattle.core_checks.specs.declared.checks.Extent.the-variants.{Buffer}
 use Rattle.flags.specs.Fields.{flagExOf}
 use Rattle.ui2d.specs.Typed.{TypedColor}
 use Rattle.pane_read.specs.Pane.{blankPane}
@@ -19,11 +21,11 @@ use Rattle.picture_fields.specs.Typed.{TypedPicture}
 use Rattle.text_box_read.specs.TextBox.{blankTextBox}
 use Rattle.window_read.specs.Window.{blankWindow}
 use Rattle.alignment_fields.specs.Alignment.{blankAlignment, TypedAlignment}
-use Rattle.pane.specs.Body.{paneRead, paneParsed}
-use Rattle.picture.specs.Body.{pictureRead, pictureParsed}
-use Rattle.text_box.specs.Body.{textBoxOwn, textBoxRead}
-use Rattle.window.specs.Body.{ownTaken, windowRead, windowParsed}
-use Rattle.alignment.specs.Body.{alignmentRead, alignmentParsed}
+use Rattle.pane.specs.Body.{paneMeasured, paneGiven, paneRead, paneParsed}
+use Rattle.picture.specs.Body.{pictureMeasured, pictureGiven, pictureRead, pictureParsed}
+use Rattle.text_box.specs.Body.{textBoxMeasured, textBoxGiven, textBoxRead}
+use Rattle.window.specs.Body.{windowMeasured, windowGiven, windowRead, windowParsed}
+use Rattle.alignment.specs.Body.{alignmentMeasured, alignmentGiven, alignmentRead, alignmentParsed}
 use Rattle.strip_records.specs.Typed.{Below}
 use Rattle.strip_records.specs.Whole.{Lists, blankRecord}
 use Rattle.strip_records.specs.declared.kind.Kind.{Kind}
@@ -141,57 +143,57 @@ unfolding unlessRefused
 unless P (At c) x y h k = k
 unless P (Refused why) x y h k = h
 
-module _ (order : ByteOrder) (s : List ℕ) (h : Below 256 s) (p : Place) (body : ℕ) where
-  pane-read : TypedBase (paneRead order s p body .pane)
-  unfolding paneRead
+module _ (order : ByteOrder) (s : List ℕ) (h : Below 256 s) (p : Place) (body : ℕ) (x : Extent) where
+  pane-read : TypedBase (paneRead order s p body x .pane)
+  unfolding paneRead paneGiven paneMeasured
   pane-read = unless TypedBase _ _ _ blank-base (base-typed order s h p)
 
-  picture-base : TypedBase (pictureRead order s p body .base)
-  unfolding pictureRead
+  picture-base : TypedBase (pictureRead order s p body x .base)
+  unfolding pictureRead pictureGiven pictureMeasured
   picture-base = unless TypedBase _ _ _ blank-base (base-typed order s h p)
 
-  picture-own : TypedPicture (pictureRead order s p body .picture)
-  unfolding pictureRead
+  picture-own : TypedPicture (pictureRead order s p body x .picture)
+  unfolding pictureRead pictureGiven pictureMeasured
   picture-own = unless TypedPicture _ _ _ blank-picture (picture-typed order s h _)
 
-  text-box-base : TypedBase (textBoxRead order s p body .base)
-  unfolding textBoxRead
+  text-box-base : TypedBase (textBoxRead order s p body x .base)
+  unfolding textBoxRead textBoxGiven textBoxMeasured
   text-box-base = unless TypedBase _ _ _ blank-base (base-typed order s h p)
 
-  text-box-own : TypedTexts (textBoxRead order s p body .«text_box»)
-  unfolding textBoxRead textBoxOwn
+  text-box-own : TypedTexts (textBoxRead order s p body x .«text_box»)
+  unfolding textBoxRead textBoxGiven textBoxMeasured
   text-box-own = unless TypedTexts _ _ _ blank-texts (text-box-typed order s h _ body)
 
-  window-base : TypedBase (windowRead order s p body .base)
-  unfolding windowRead
+  window-base : TypedBase (windowRead order s p body x .base)
+  unfolding windowRead windowGiven windowMeasured
   window-base = unless TypedBase _ _ _ blank-base (base-typed order s h p)
 
-  window-own : TypedFrames (windowRead order s p body .window)
-  unfolding windowRead ownTaken
+  window-own : TypedFrames (windowRead order s p body x .window)
+  unfolding windowRead windowGiven windowMeasured
   window-own = unless TypedFrames _ _ _ blank-frames (window-typed order s h _ body)
 
-  alignment-base : TypedBase (alignmentRead order s p body .base)
-  unfolding alignmentRead
+  alignment-base : TypedBase (alignmentRead order s p body x .base)
+  unfolding alignmentRead alignmentGiven alignmentMeasured
   alignment-base = unless TypedBase _ _ _ blank-base (base-typed order s h p)
 
-  alignment-own : TypedAlignment (alignmentRead order s p body .alignment)
-  unfolding alignmentRead
+  alignment-own : TypedAlignment (alignmentRead order s p body x .alignment)
+  unfolding alignmentRead alignmentGiven alignmentMeasured
   alignment-own = unless TypedAlignment _ _ _ blank-alignment (alignment-typed order s h _)
 
 -- ---- THE BODY of a kind, from a place of a run and as a call
 
-pub body-given : (order : ByteOrder) (k : Kind) (s : List ℕ) (p : Place) (body : ℕ) → Below 256 s → Given (bodyRead order k s p body .«record»)
+pub body-given : (order : ByteOrder) (k : Kind) (s : List ℕ) (p : Place) (body : ℕ) (x : Extent) → Below 256 s → Given (bodyRead order k s p body x .«record»)
 unfolding bodyRead
-body-given order Pan1 s p body h = record { typed = whole-typed _ (pane-read order s h p body) blank-picture blank-texts blank-frames blank-alignment; others = (refl, refl, refl, refl) }
-body-given order Pic1 s p body h = record { typed = whole-typed _ (picture-base order s h p body) (picture-own order s h p body) blank-texts blank-frames blank-alignment; others = (refl, refl, refl) }
-body-given order Txt1 s p body h = record { typed = whole-typed _ (text-box-base order s h p body) blank-picture (text-box-own order s h p body) blank-frames blank-alignment; others = (refl, refl, refl) }
-body-given order Wnd1 s p body h = record { typed = whole-typed _ (window-base order s h p body) blank-picture blank-texts (window-own order s h p body) blank-alignment; others = (refl, refl, refl) }
-body-given order Ali1 s p body h = record { typed = whole-typed _ (alignment-base order s h p body) blank-picture blank-texts blank-frames (alignment-own order s h p body); others = (refl, refl, refl) }
+body-given order Pan1 s p body x h = record { typed = whole-typed _ (pane-read order s h p body x) blank-picture blank-texts blank-frames blank-alignment; others = (refl, refl, refl, refl) }
+body-given order Pic1 s p body x h = record { typed = whole-typed _ (picture-base order s h p body x) (picture-own order s h p body x) blank-texts blank-frames blank-alignment; others = (refl, refl, refl) }
+body-given order Txt1 s p body x h = record { typed = whole-typed _ (text-box-base order s h p body x) blank-picture (text-box-own order s h p body x) blank-frames blank-alignment; others = (refl, refl, refl) }
+body-given order Wnd1 s p body x h = record { typed = whole-typed _ (window-base order s h p body x) blank-picture blank-texts (window-own order s h p body x) blank-alignment; others = (refl, refl, refl) }
+body-given order Ali1 s p body x h = record { typed = whole-typed _ (alignment-base order s h p body x) blank-picture blank-texts blank-frames (alignment-own order s h p body x); others = (refl, refl, refl) }
 
 pub parsed-given : (order : ByteOrder) (k : Kind) (s : List ℕ) (body : ℕ) (l : Lists) → Below 256 s → Given (bodyParsed order k s body l .«record»)
 unfolding bodyParsed bodyRead paneParsed pictureParsed windowParsed alignmentParsed
-parsed-given order Pan1 s body l h = body-given order Pan1 s _ body h
-parsed-given order Pic1 s body l h = body-given order Pic1 s _ body h
-parsed-given order Txt1 s body l h = body-given order Txt1 s _ body h
-parsed-given order Wnd1 s body l h = body-given order Wnd1 s _ body h
-parsed-given order Ali1 s body l h = body-given order Ali1 s _ body h
+parsed-given order Pan1 s body l h = body-given order Pan1 s _ body Buffer h
+parsed-given order Pic1 s body l h = body-given order Pic1 s _ body Buffer h
+parsed-given order Txt1 s body l h = body-given order Txt1 s _ body Buffer h
+parsed-given order Wnd1 s body l h = body-given order Wnd1 s _ body Buffer h
+parsed-given order Ali1 s body l h = body-given order Ali1 s _ body Buffer h

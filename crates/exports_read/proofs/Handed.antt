@@ -9,6 +9,7 @@ use Rattle.core.specs.Bytes.{splice}
 use Rattle.core.specs.declared.cursor.ByteOrder.{ByteOrder}
 use Rattle.core.specs.declared.cursor.Place.{Place}
 use Rattle.core.specs.declared.cursor.Place.the-variants as Places
+use Rattle.core_checks.specs.declared.checks.Extent.the-variants.{Section}
 use Rattle.core_checks.specs.declared.checks.Parsed.{Parsed}
 use Rattle.core_checks.specs.declared.checks.Parsed.the-variants as Parseds
 use Rattle.strip_records.specs.Typed.{Below}
@@ -37,7 +38,9 @@ finished-given (Parseds.Refused why) next r g = blank-given
 
 kind-given : (order : ByteOrder) (k : KindFound) (s : List ℕ) (p : Place) (body next : ℕ) → Below 256 s → Given (byKind order k s p body next .«record»)
 unfolding byKind readBody passedWith
-kind-given order (Is k) s p body next h = finished-given (bodyRead order k s p body .answer) next (bodyRead order k s p body .«record») (body-given order k s p body h)
+kind-given order (Is k) s p body next h =
+    let b = bodyRead order k s p body (Section next) in
+    finished-given (b .answer) next (b .«record») (body-given order k s p body (Section next) h)
 kind-given order Other s p body next h = blank-given
 
 refused-given : (p : Place) (r : SectionRead) → Given (r .«record») → Given (orRefused p r .«record»)

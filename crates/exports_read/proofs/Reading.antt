@@ -10,6 +10,7 @@ use Rattle.core.specs.Bytes.{splice}
 use Rattle.core.specs.declared.cursor.ByteOrder.{ByteOrder}
 use Rattle.core.specs.declared.cursor.Place.{Place}
 use Rattle.core.specs.declared.error.Refusal.{Refusal}
+use Rattle.core_checks.specs.declared.checks.Extent.the-variants.{Section}
 use Rattle.core_checks.specs.declared.checks.Parsed.{Parsed}
 use Rattle.core_checks.specs.declared.checks.Parsed.the-variants as Parseds
 use Rattle.strip_records.specs.Whole.{Lists}
@@ -55,8 +56,8 @@ module _ (w : List ℕ) (l : Lists) (a : Answer) where
 -- ---- the kind that there is
 
 module _ (order : ByteOrder) (k e : Kind) (h : k ≡ e) (s : List ℕ) (body : ℕ) (w w′ : List ℕ) (a : Answer) (l l′ : Lists) where
-  pub read-as : (p : Place) (next : ℕ) → l′ ≡ bodyLists order e s p body l → readOutcome a w′ l′ ≡ delivered (readBody order e s p body next) w l′
-      → readOutcome a w′ l′ ≡ delivered (readBody order k s p body next) w (bodyLists order k s p body l)
+  pub read-as : (p : Place) (next : ℕ) → l′ ≡ bodyLists order e s p body (Section next) l → readOutcome a w′ l′ ≡ delivered (readBody order e s p body next) w l′
+      → readOutcome a w′ l′ ≡ delivered (readBody order k s p body next) w (bodyLists order k s p body (Section next) l)
   read-as p next el d = rw (h, ← el) d
 
   pub parsed-as : l′ ≡ listsParsed order e s body l → readOutcome a w′ l′ ≡ delivered (bodyFinished order e s body l) w l′ → readOutcome a w′ l′ ≡ bodyDelivered order k s body l w

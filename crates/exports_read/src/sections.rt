@@ -6,6 +6,7 @@ use crate::deliver::deliver_txt1;
 use crate::deliver::deliver_wnd1;
 use core::cursor::ByteOrder;
 use core::cursor::Place;
+use core_checks::checks::Extent;
 use exports_answers::answers::Answer;
 use strip_records::kind::Kind;
 ghost use Prim.Native.Nat.{_^_, _≤_, _<_};
@@ -31,7 +32,8 @@ fn read_pan1(
     requires { ⌜ (body < 2 ^ 32) × (116 ≤ length (now words)) ⌝ }
     ensures { λ a. ⌜ ((l : Lists) → readOutcome a (now (words .exit)) l ≡ delivered (readBody order Kind.Pan1 (now («data» .entry)) p body next) (now (words .entry)) l) ⌝ }
 {
-    let read = pane::body::read(order, data, p, body);
+    let extent = Extent::Section { end: next };
+    let read = pane::body::read(order, data, p, body, extent);
     let answer = read.answer;
     let base = read.pane;
     deliver_pan1(words, answer, next, base)
@@ -48,9 +50,10 @@ fn read_pic1(
 ) -> Answer
     requires { ⌜ (body < 2 ^ 32) × (2040 ≤ length (now quads)) × (116 ≤ length (now words)) ⌝ }
     ensures { λ a. ⌜ ((l : Lists) → readOutcome a (now (words .exit)) l ≡ delivered (readBody order Kind.Pic1 (now («data» .entry)) p body next) (now (words .entry)) l) ⌝ }
-    ensures { λ _. ⌜ now (quads .exit) ≡ quadsRead order (now («data» .entry)) p body (now (quads .entry)) ⌝ }
+    ensures { λ _. ⌜ now (quads .exit) ≡ quadsRead order (now («data» .entry)) p body (Extent.Section next) (now (quads .entry)) ⌝ }
 {
-    let read = picture::body::read(order, data, p, body, quads);
+    let extent = Extent::Section { end: next };
+    let read = picture::body::read(order, data, p, body, extent, quads);
     let answer = read.answer;
     let base = read.base;
     let own = read.picture;
@@ -69,9 +72,10 @@ fn read_txt1(
 ) -> Answer
     requires { ⌜ (8 ≤ body) × (body < 2 ^ 32) × (32767 ≤ length (now units)) × (510 ≤ length (now lines)) × (116 ≤ length (now words)) ⌝ }
     ensures { λ a. ⌜ ((l : Lists) → readOutcome a (now (words .exit)) l ≡ delivered (readBody order Kind.Txt1 (now («data» .entry)) p body next) (now (words .entry)) l) ⌝ }
-    ensures { λ _. ⌜ (now (units .exit) ≡ unitsAfter order (now («data» .entry)) p body (now (units .entry))) × (now (lines .exit) ≡ linesAfter order (now («data» .entry)) p body (now (lines .entry))) ⌝ }
+    ensures { λ _. ⌜ (now (units .exit) ≡ unitsAfter order (now («data» .entry)) p body (Extent.Section next) (now (units .entry))) × (now (lines .exit) ≡ linesAfter order (now («data» .entry)) p body (Extent.Section next) (now (lines .entry))) ⌝ }
 {
-    let read = text_box::body::read(order, data, p, body, units, lines);
+    let extent = Extent::Section { end: next };
+    let read = text_box::body::read(order, data, p, body, extent, units, lines);
     let answer = read.answer;
     let base = read.base;
     let own = read.text_box;
@@ -90,9 +94,10 @@ fn read_wnd1(
 ) -> Answer
     requires { ⌜ (8 ≤ body) × (body < 2 ^ 32) × (2040 ≤ length (now quads)) × (510 ≤ length (now frames)) × (116 ≤ length (now words)) ⌝ }
     ensures { λ a. ⌜ ((l : Lists) → readOutcome a (now (words .exit)) l ≡ delivered (readBody order Kind.Wnd1 (now («data» .entry)) p body next) (now (words .entry)) l) ⌝ }
-    ensures { λ _. ⌜ (now (quads .exit) ≡ readQuads order (now («data» .entry)) p body (now (quads .entry))) × (now (frames .exit) ≡ readFrames order (now («data» .entry)) p body (now (frames .entry))) ⌝ }
+    ensures { λ _. ⌜ (now (quads .exit) ≡ readQuads order (now («data» .entry)) p body (Extent.Section next) (now (quads .entry))) × (now (frames .exit) ≡ readFrames order (now («data» .entry)) p body (Extent.Section next) (now (frames .entry))) ⌝ }
 {
-    let read = window::body::read(order, data, p, body, quads, frames);
+    let extent = Extent::Section { end: next };
+    let read = window::body::read(order, data, p, body, extent, quads, frames);
     let answer = read.answer;
     let base = read.base;
     let own = read.window;
@@ -110,7 +115,8 @@ fn read_ali1(
     requires { ⌜ (body < 2 ^ 32) × (116 ≤ length (now words)) ⌝ }
     ensures { λ a. ⌜ ((l : Lists) → readOutcome a (now (words .exit)) l ≡ delivered (readBody order Kind.Ali1 (now («data» .entry)) p body next) (now (words .entry)) l) ⌝ }
 {
-    let read = alignment::body::read(order, data, p, body);
+    let extent = Extent::Section { end: next };
+    let read = alignment::body::read(order, data, p, body, extent);
     let answer = read.answer;
     let base = read.base;
     let own = read.alignment;
@@ -131,7 +137,7 @@ pub(crate) fn read_kind(
     words: &mut [u64],
 ) -> Answer
     requires { ⌜ (8 ≤ body) × (body < 2 ^ 32) × Full (lists (now quads) (now units) (now lines) (now frames)) × (116 ≤ length (now words)) ⌝ }
-    ensures { λ a. ⌜ readOutcome a (now (words .exit)) (lists (now (quads .exit)) (now (units .exit)) (now (lines .exit)) (now (frames .exit))) ≡ delivered (readBody order kind (now («data» .entry)) p body next) (now (words .entry)) (bodyLists order kind (now («data» .entry)) p body (lists (now (quads .entry)) (now (units .entry)) (now (lines .entry)) (now (frames .entry)))) ⌝ }
+    ensures { λ a. ⌜ readOutcome a (now (words .exit)) (lists (now (quads .exit)) (now (units .exit)) (now (lines .exit)) (now (frames .exit))) ≡ delivered (readBody order kind (now («data» .entry)) p body next) (now (words .entry)) (bodyLists order kind (now («data» .entry)) p body (Extent.Section next) (lists (now (quads .entry)) (now (units .entry)) (now (lines .entry)) (now (frames .entry)))) ⌝ }
 {
     match kind {
         Kind::Pan1 => read_pan1(order, data, p, body, next, words),

@@ -212,7 +212,7 @@ pub const PANE: u64 = 2;
 // Written. The end place, 0, 0.
 pub const WRITTEN: u64 = 3;
 
-// Refused. Document 01's number, figure a, figure b.
+// Refused. The number, document 01's or one that document 02 adds, figure a, figure b.
 pub const REFUSED: u64 = 4;
 
 // The record's words are fewer than RECORD_WORDS: RECORD_WORDS, 0, 0. Nothing was read or written.

@@ -56,6 +56,20 @@ fn print_read(answer: Section, r: Record) {
     }
 }
 
+// What the section at place 0 is measured as, with no list lent: the three places that the read has told, again.
+fn print_measured(answer: Section) {
+    match answer {
+        Section::Pane { end, next, reach } => {
+            print_named(b", measured", end);
+            print_figure(next);
+            print_figure(reach);
+        }
+        Section::Passed { next: _ } => print(b", measured: passed"),
+        Section::End => print(b", measured: end"),
+        Section::Refused(_) => print(b", measured: refused"),
+    }
+}
+
 // What the section at place 0 is read as, with lists that hold something else.
 fn read_back(order: ByteOrder, data: &[u8]) {
     let mut quads = [7u32; 2040];
@@ -74,6 +88,9 @@ fn read_back(order: ByteOrder, data: &[u8]) {
     let answer = read.answer;
     let record = read.record;
     print_read(answer, record);
+    let measured = strip::measure::measure_section(order, data, 0);
+    let answer = measured.answer;
+    print_measured(answer);
 }
 
 // ---- writing

@@ -17,7 +17,7 @@ use Rattle.strip_header.specs.declared.Section.the-variants.{End, Passed, Pane,
 use Rattle.strip_records.specs.Kinds.{letterBytes}
 use Rattle.strip_records.specs.declared.kind.Kind.{Kind}
 use Rattle.strip_records.specs.declared.kind.Kind.the-variants.{Pan1, Pic1, Txt1, Wnd1, Ali1}
-use Rattle.page.specs.PageLine.{quoted, placeText, sizeText, stringText, eofText, noNulText, perCharacterText, illFormedText, sectionSizeText, sentence, paneText, passText, refusedText, endText, pageText}
+use Rattle.page.specs.PageLine.{quoted, placeText, sizeText, stringText, eofText, noNulText, perCharacterText, illFormedText, sectionSizeText, pastSectionText, sentence, paneText, passText, refusedText, endText, pageText}
 
 record Plain (l : List ℕ) : Type 0 where
   none : hasControl l ≡ false
@@ -107,6 +107,10 @@ unfolding sectionSizeText hasControl control
 section-size-plain a b =
     word (ascii "the section size ") refl and decimal-plain b and word (ascii " at ") refl and decimal-plain a and word (ascii " is below 8, no multiple of 4, or passes the buffer") refl
 
+past-section-plain : (a b : ℕ) → Plain (pastSectionText a b)
+unfolding pastSectionText hasControl control
+past-section-plain a b = word (ascii "the pane looks as far as ") refl and decimal-plain a and word (ascii ", past the end of its section at ") refl and decimal-plain b
+
 sentence-plain : (number a b : ℕ) → Plain (sentence number a b)
 unfolding sentence hasControl control
 sentence-plain number a b =
@@ -115,7 +119,8 @@ sentence-plain number a b =
     (either (eqb number 6) (per-character-plain a)
     (either (eqb number 7) (ill-formed-plain a b)
     (either (eqb number 8) (section-size-plain a b)
-    (word (ascii "no walk over a page gives this") refl)))))
+    (either (eqb number 19) (past-section-plain a b)
+    (word (ascii "no walk over a page gives this") refl))))))
 
 -- ---- the lines
 

@@ -54,6 +54,9 @@ illFormedText a b = ascii "the " ++ stringText b ++ ascii " at " ++ decimal a ++
 unfoldable pub sectionSizeText : ℕ → ℕ → List ℕ
 sectionSizeText a b = ascii "the section size " ++ decimal b ++ ascii " at " ++ decimal a ++ ascii " is below 8, no multiple of 4, or passes the buffer"
 
+unfoldable pub pastSectionText : ℕ → ℕ → List ℕ
+pastSectionText a b = ascii "the pane looks as far as " ++ decimal a ++ ascii ", past the end of its section at " ++ decimal b
+
 unfoldable pub sentence : ℕ → ℕ → ℕ → List ℕ
 sentence number a b =
     cond (eqb number 4) (eofText a b)
@@ -61,7 +64,8 @@ sentence number a b =
     (cond (eqb number 6) (perCharacterText a)
     (cond (eqb number 7) (illFormedText a b)
     (cond (eqb number 8) (sectionSizeText a b)
-    (ascii "no walk over a page gives this")))))
+    (cond (eqb number 19) (pastSectionText a b)
+    (ascii "no walk over a page gives this"))))))
 
 -- ---- the lines, without their end
 

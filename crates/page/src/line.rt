@@ -135,6 +135,18 @@ fn put_sentence(out: &mut [u8], p: usize, number: usize, a: usize, b: usize) -> 
         let after = b" is below 8, no multiple of 4, or passes the buffer";
         return put_numbers(out, p, b"the section size ", b, b" at ", a, after);
     }
+    if number == 19 {
+        let before = b"the pane looks as far as ";
+        return put_numbers(
+            out,
+            p,
+            before,
+            a,
+            b", past the end of its section at ",
+            b,
+            b"",
+        );
+    }
     put_bytes(out, p, b"no walk over a page gives this")
 }
 

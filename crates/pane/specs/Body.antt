@@ -3,9 +3,11 @@ use Prim.Native.Nat.{ℕ, _+_}
 use mathlib.Core.List.{List}
 use lib.ListN.{length}
 use Rattle.core.specs.Bytes.{splice}
-use Rattle.core_checks.specs.Checks.{bodyStart, endChecked, parsedOf, unlessRefused, writtenOf}
+use Rattle.core_checks.specs.Checks.{bodyStart, endChecked, reachChecked, parsedOf, unlessRefused, writtenOf}
 use Rattle.core.specs.declared.cursor.ByteOrder.{ByteOrder}
 use Rattle.core.specs.declared.cursor.Place.{Place}
+use Rattle.core_checks.specs.declared.checks.Extent.{Extent}
+use Rattle.core_checks.specs.declared.checks.Extent.the-variants.{Buffer}
 use Rattle.core_checks.specs.declared.checks.Written.{Written}
 use Rattle.pane_read.specs.Pane.{paneTaken, blankPane, encodePane}
 use Rattle.pane_checks.specs.Checks.{textsChecked, namesChecked, reserveChecked}
@@ -13,16 +15,22 @@ use Rattle.pane_read.specs.declared.Pane.{Pane}
 use Rattle.pane_read.specs.declared.PaneTaken.{PaneTaken}
 use Rattle.pane.specs.declared.body.PaneParsed.{PaneParsed}
 
--- a read from a place p of the run, of a body at B: the fields with 4, then 7
-unfoldable pub paneRead : ByteOrder → List ℕ → Place → ℕ → PaneParsed
-paneRead order s p body =
+-- what is measured from a place p of the run, of a body at B: the fields with 4, then 7 and, in a section, 19
+unfoldable pub paneMeasured : ByteOrder → List ℕ → Place → ℕ → Extent → PaneTaken
+paneMeasured order s p body extent =
     let t : PaneTaken = paneTaken order s p in
-    let q : Place = textsChecked (t .then) (t .pane) body in
-    record { answer = parsedOf q; pane = unlessRefused q blankPane (t .pane) }
+    record { pane = t .pane; then = reachChecked (textsChecked (t .then) (t .pane) body) extent }
 
--- THE BODY READ at B of s: 1, 2, and then so
+-- what a read gives of it, blank where the run was refused
+unfoldable pub paneGiven : PaneTaken → PaneParsed
+paneGiven m = record { answer = parsedOf (m .then); pane = unlessRefused (m .then) blankPane (m .pane) }
+
+unfoldable pub paneRead : ByteOrder → List ℕ → Place → ℕ → Extent → PaneParsed
+paneRead order s p body extent = paneGiven (paneMeasured order s p body extent)
+
+-- THE BODY READ at B of s: 1, 2, and then so, in all of the buffer
 unfoldable pub paneParsed : ByteOrder → List ℕ → ℕ → PaneParsed
-paneParsed order s body = paneRead order s (bodyStart (length s) body) body
+paneParsed order s body = paneRead order s (bodyStart (length s) body) body Buffer
 
 -- 1, 2, 9, 10 and 16 of a write into n bytes
 unfoldable pub paneWriteChecked : Pane → ℕ → ℕ → Place

@@ -3,18 +3,20 @@ use core::cursor::ByteOrder;
 use core::cursor::Place;
 use core::error::Refusal;
 use core_checks::checks;
+use core_checks::checks::Extent;
 use core_checks::checks::Parsed;
 use core_checks::checks::Written;
 use pane_checks::checks::names_checked;
 use pane_checks::checks::reserve_checked;
 use pane_checks::checks::texts_checked;
 use pane_read::Pane;
+use pane_read::PaneTaken;
 ghost use mathlib.Core.Path.{_≡_};
 ghost use Prim.Native.Nat.{_^_, _<_};
 ghost use lib.ListN.{length};
 ghost use Rattle.core_checks.specs.Checks.{parsedByNumber, writtenByNumber};
 ghost use Rattle.pane_read.specs.Pane.{blankPane};
-ghost use Rattle.pane.specs.Body.{paneRead, paneParsed, paneWriteChecked, paneWritten, paneOutput};
+ghost use Rattle.pane.specs.Body.{paneMeasured, paneGiven, paneRead, paneParsed, paneWriteChecked, paneWritten, paneOutput};
 
 // What a body read gives: its answer, and the pane, blank where it was refused.
 pub struct PaneParsed {
@@ -31,15 +33,25 @@ fn refused(why: Refusal) -> PaneParsed
     }
 }
 
-// The reads, and check 7.
-pub fn read(order: ByteOrder, data: &[u8], p: Place, place: usize) -> PaneParsed
+// All reads, check 7 and, in a section, check 19.
+pub fn measure(order: ByteOrder, data: &[u8], p: Place, place: usize, extent: Extent) -> PaneTaken
     requires { ⌜ place < 2 ^ 32 ⌝ }
-    ensures { λ r. ⌜ r ≡ paneRead order (now («data» .entry)) p place ⌝ }
+    ensures { λ r. ⌜ r ≡ paneMeasured order (now («data» .entry)) p place extent ⌝ }
 {
     let taken = pane_read::take_pane(order, data, p);
     let pane = taken.pane;
-    let q = taken.then;
-    let then = texts_checked(q, pane, place);
+    let p1 = taken.then;
+    let p2 = texts_checked(p1, pane, place);
+    let then = checks::reach_checked(p2, extent);
+    PaneTaken { pane, then }
+}
+
+// What a read gives of what was measured.
+pub fn given(m: PaneTaken) -> PaneParsed
+    ensures { λ r. ⌜ r ≡ paneGiven m ⌝ }
+{
+    let pane = m.pane;
+    let then = m.then;
     match then {
         Place::At(c) => {
             let answer = checks::read_to(c);
@@ -49,6 +61,15 @@ pub fn read(order: ByteOrder, data: &[u8], p: Place, place: usize) -> PaneParsed
     }
 }
 
+// The read in a buffer or in a section: measured, and given.
+pub fn read(order: ByteOrder, data: &[u8], p: Place, place: usize, extent: Extent) -> PaneParsed
+    requires { ⌜ place < 2 ^ 32 ⌝ }
+    ensures { λ r. ⌜ r ≡ paneRead order (now («data» .entry)) p place extent ⌝ }
+{
+    let m = measure(order, data, p, place, extent);
+    given(m)
+}
+
 // The pane at a place: checks 1, 2, the reads with 4, then 7.
 pub fn parse(order: ByteOrder, data: &[u8], place: usize) -> PaneParsed
     ensures { λ r. ⌜ r ≡ paneParsed order (now («data» .entry)) place ⌝ }
@@ -56,7 +77,7 @@ pub fn parse(order: ByteOrder, data: &[u8], place: usize) -> PaneParsed
 {
     let p = checks::body_start(data.len(), place);
     match p {
-        Place::At(c) => read(order, data, Place::At(c), place),
+        Place::At(c) => read(order, data, Place::At(c), place, Extent::Buffer),
         Place::Refused(why) => refused(why),
     }
 }

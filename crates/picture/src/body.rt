@@ -1,8 +1,10 @@
 // The body calls of a picture pane: any bytes are read or refused, any pane with its quads is written or refused.
 use core::cursor::ByteOrder;
+use core::cursor::Cursor;
 use core::cursor::Place;
 use core::error::Refusal;
 use core_checks::checks;
+use core_checks::checks::Extent;
 use core_checks::checks::Parsed;
 use core_checks::checks::Written;
 use pane_checks::checks::names_checked;
@@ -10,14 +12,22 @@ use pane_checks::checks::reserve_checked;
 use pane_checks::checks::texts_checked;
 use pane_read::Pane;
 use picture_fields::PicturePane;
+use picture_fields::PictureTaken;
 ghost use mathlib.Core.Path.{_≡_};
 ghost use Prim.Native.Nat.{_^_, _<_, _≤_};
 ghost use lib.ListN.{length};
 ghost use Rattle.core_checks.specs.Checks.{parsedByNumber, writtenByNumber};
 ghost use Rattle.core.specs.Bytes.{Room, Put};
 ghost use Rattle.pane_read.specs.Pane.{Sound};
-ghost use Rattle.picture_fields.specs.Picture.{GoodPicture};
-ghost use Rattle.picture.specs.Body.{Blank, pictureRead, quadsRead, pictureStart, pictureParsed, quadsParsed, bodyLength, encodeBody, pictureWriteChecked, pictureWritten, pictureOutput};
+ghost use Rattle.picture_fields.specs.Picture.{Measured, GoodPicture};
+ghost use Rattle.picture.specs.Body.{Blank, pictureMeasured, pictureGiven, quadsFilled, pictureRead, quadsRead, pictureStart, pictureParsed, quadsParsed, bodyLength, encodeBody, pictureWriteChecked, pictureWritten, pictureOutput};
+
+// A pane that was measured, where its quads stand among what it has of its own, and where the run stands then.
+pub struct PictureMeasured {
+    pub base: Pane,
+    pub own: PictureTaken,
+    pub then: Place,
+}
 
 // What a body read gives: its answer, and the pane, blank where it was refused.
 pub struct PictureParsed {
@@ -36,28 +46,52 @@ fn refused(why: Refusal) -> PictureParsed
     }
 }
 
-// The reads, check 7, and then the quads.
-pub fn read(
+// All reads, check 7 and, in a section, check 19.
+pub fn measure(
     order: ByteOrder,
     data: &[u8],
     p: Place,
     place: usize,
-    quads: &mut [u32],
-) -> PictureParsed
-    requires { ⌜ (place < 2 ^ 32) × (2040 ≤ length (now quads)) ⌝ }
-    ensures { λ r. ⌜ r ≡ pictureRead order (now («data» .entry)) p place ⌝ }
-    ensures { λ _. ⌜ now (quads .exit) ≡ quadsRead order (now («data» .entry)) p place (now (quads .entry)) ⌝ }
+    extent: Extent,
+) -> PictureMeasured
+    requires { ⌜ place < 2 ^ 32 ⌝ }
+    ensures { λ r. ⌜ r ≡ pictureMeasured order (now («data» .entry)) p place extent ⌝ }
 {
     let taken = pane_read::take_pane(order, data, p);
     let base = taken.pane;
     let p1 = taken.then;
     let own = picture_fields::measure_picture(order, data, p1);
-    let picture = own.picture;
     let p2 = own.then;
-    let then = texts_checked(p2, base, place);
+    let p3 = texts_checked(p2, base, place);
+    let then = checks::reach_checked(p3, extent);
+    PictureMeasured { base, own, then }
+}
+
+// The quads of a pane that was measured and not refused.
+pub fn fill(order: ByteOrder, data: &[u8], m: PictureMeasured, quads: &mut [u32])
+    requires { ⌜ ((c : Cursor) → m .then ≡ Place.At c → Measured (now «data») (m .own) (length (now quads))) ⌝ }
+    ensures { λ _. ⌜ now (quads .exit) ≡ quadsFilled order (now («data» .entry)) m (now (quads .entry)) ⌝ }
+{
+    let then = m.then;
+    match then {
+        Place::At(_) => {
+            let own = m.own;
+            picture_fields::fill_picture(order, data, own, quads);
+        }
+        Place::Refused(_) => {}
+    }
+}
+
+// What a read gives of what was measured.
+pub fn given(m: PictureMeasured) -> PictureParsed
+    ensures { λ r. ⌜ r ≡ pictureGiven m ⌝ }
+{
+    let base = m.base;
+    let own = m.own;
+    let picture = own.picture;
+    let then = m.then;
     match then {
         Place::At(c) => {
-            picture_fields::fill_picture(order, data, own, quads);
             let answer = checks::read_to(c);
             PictureParsed {
                 answer,
@@ -67,6 +101,24 @@ pub fn read(
         }
         Place::Refused(why) => refused(why),
     }
+}
+
+// The read in a buffer or in a section: measured, filled and given.
+pub fn read(
+    order: ByteOrder,
+    data: &[u8],
+    p: Place,
+    place: usize,
+    extent: Extent,
+    quads: &mut [u32],
+) -> PictureParsed
+    requires { ⌜ (place < 2 ^ 32) × (2040 ≤ length (now quads)) ⌝ }
+    ensures { λ r. ⌜ r ≡ pictureRead order (now («data» .entry)) p place extent ⌝ }
+    ensures { λ _. ⌜ now (quads .exit) ≡ quadsRead order (now («data» .entry)) p place extent (now (quads .entry)) ⌝ }
+{
+    let m = measure(order, data, p, place, extent);
+    fill(order, data, m, quads);
+    given(m)
 }
 
 // 1, 2 and 3
@@ -85,7 +137,7 @@ pub fn parse(order: ByteOrder, data: &[u8], place: usize, quads: &mut [u32]) -> 
 {
     let p = read_start(data.len(), place, quads.len());
     match p {
-        Place::At(c) => read(order, data, Place::At(c), place, quads),
+        Place::At(c) => read(order, data, Place::At(c), place, Extent::Buffer, quads),
         Place::Refused(why) => refused(why),
     }
 }

@@ -14,25 +14,29 @@ use Rattle.core.specs.declared.cursor.Cursor.{Cursor}
 use Rattle.core.specs.declared.cursor.Place.{Place}
 use Rattle.core.specs.declared.cursor.Place.the-variants.{At, Refused}
 use Rattle.core.proofs.Cursors.{pos-start, pos-advanced, reach-start, reach-covers, reach-level}
-use Rattle.core_checks.specs.Checks.{parsedOf, unlessRefused}
+use Rattle.core_checks.specs.Checks.{reachChecked, parsedOf, unlessRefused}
+use Rattle.core_checks.specs.declared.checks.Extent.{Extent}
 use Rattle.core_checks.specs.declared.checks.Parsed.the-variants as Parseds
+use Rattle.core_checks.proofs.Checked.{reach-cleared}
 use Rattle.pane_read.specs.Pane.{paneTaken}
+use Rattle.pane_read.specs.declared.Pane.{Pane}
 use Rattle.pane_checks.specs.Checks.{textsChecked}
 use Rattle.pane_checks.proofs.Cleared.{texts-cleared}
-use Rattle.pane.specs.Body.{paneRead}
+use Rattle.pane.specs.Body.{paneMeasured, paneGiven, paneRead}
 use Rattle.alignment_fields.specs.Alignment.{alignmentTaken}
-use Rattle.alignment.specs.Body.{alignmentRead}
+use Rattle.alignment.specs.Body.{alignmentMeasured, alignmentGiven, alignmentRead}
 use Rattle.picture_fields.specs.Picture.{pictureTaken}
-use Rattle.picture.specs.Body.{pictureRead, quadsRead}
+use Rattle.picture.specs.Body.{pictureMeasured, pictureGiven, quadsFilled, pictureRead, quadsRead}
 use Rattle.window_read.specs.Window.{windowTaken}
-use Rattle.window.specs.Body.{ownTaken, readPlace, windowRead, readQuads, readFrames}
+use Rattle.window.specs.Body as window
+use Rattle.window.specs.Body.{windowMeasured, windowGiven, framesFilled, windowRead, readQuads, readFrames}
 use Rattle.text_box_parts.specs.declared.Label.{Label}
 use Rattle.text_box_parts.specs.declared.Label.the-variants as label
 use Rattle.text_box_caption.specs.Caption.{labelOf}
 use Rattle.text_box_checks.specs.Checks.{labelChecked}
 use Rattle.text_box_read.specs.TextBox.{textBoxTaken, blankTextBox}
 use Rattle.text_box_read.specs.declared.TextBoxPane.{TextBoxPane}
-use Rattle.text_box.specs.Body.{textBoxOwn, textBoxEnd, textBoxRead, unitsAfter, linesAfter}
+use Rattle.text_box.specs.Body.{textBoxMeasured, textBoxGiven, unitsFilled, linesFilled, textBoxRead, unitsAfter, linesAfter}
 use Rattle.text_box.proofs.Calls.{label-cleared}
 use Rattle.strip_records.specs.Kinds.{lengthOf}
 use Rattle.strip_records.specs.Whole.{Lists}
@@ -124,58 +128,70 @@ unfolding unlessRefused blankTextBox
 label-unless (At c) s s′ x e = e
 label-unless (Refused why) s s′ x e = refl
 
-abbrev pub Runs : ByteOrder → Kind → ℕ → Lists → Type 0
-Runs order k body l = (s s′ : List ℕ) (end reach : ℕ) → bodySeen order k body l s .read .answer ≡ Parseds.Read end reach → Agrees (body - 8) reach s s′
-    → Ran body (lengthOf k) (seeks k) end reach (body - 8) reach (length s) (bodySeen order k body l s′ ≡ bodySeen order k body l s)
+abbrev pub Runs : ByteOrder → Kind → ℕ → Extent → Lists → Type 0
+Runs order k body x l = (s s′ : List ℕ) (end reach : ℕ) → bodySeen order k body x l s .read .answer ≡ Parseds.Read end reach → Agrees (body - 8) reach s s′
+    → Ran body (lengthOf k) (seeks k) end reach (body - 8) reach (length s) (bodySeen order k body x l s′ ≡ bodySeen order k body x l s)
 
-module _ (order : ByteOrder) (body : ℕ) (l : Lists) where
-  pan : Runs order Pan1 body l
-  unfolding bodyRead bodyLists paneRead
+-- the run ended where 7, and 19 in a section, let it through
+record Stood (t q : Place) (end reach : ℕ) : Type 0 where
+  answer : Answered q end reach
+  stood : t ≡ At (answer .cursor)
+
+ended : (t : Place) (b : Pane) (body : ℕ) (x : Extent) (end reach : ℕ) → parsedOf (reachChecked (textsChecked t b body) x) ≡ Parseds.Read end reach
+    → Stood t (reachChecked (textsChecked t b body) x) end reach
+ended t b body x end reach e =
+    let f = answered (reachChecked (textsChecked t b body) x) end reach e in
+    record { answer = f; stood = texts-cleared t b body (f .cursor) (reach-cleared (textsChecked t b body) x (f .cursor) (f .here)) }
+
+module _ (order : ByteOrder) (body : ℕ) (z : Extent) (l : Lists) where
+  pan : Runs order Pan1 body z l
+  unfolding bodyRead bodyLists paneRead paneGiven paneMeasured
   pan s s′ end reach e a =
       let t = paneTaken order s (At (start body)) in
-      let f = answered (textsChecked (t .then) (t .pane) body) end reach e in
-      let x = pane-went (body - 8) reach s s′ a order (At (start body)) (f .cursor) (texts-cleared (t .then) (t .pane) body (f .cursor) (f .here)) in
-      ran-so (base-ran f x) (λ u. rw u)
+      let f = ended (t .then) (t .pane) body z end reach e in
+      let x = pane-went (body - 8) reach s s′ a order (At (start body)) (f .answer .cursor) (f .stood) in
+      ran-so (base-ran (f .answer) x) (λ u. rw u)
 
-  ali : Runs order Ali1 body l
-  unfolding bodyRead bodyLists alignmentRead
+  ali : Runs order Ali1 body z l
+  unfolding bodyRead bodyLists alignmentRead alignmentGiven alignmentMeasured
   ali s s′ end reach e a =
       let b = paneTaken order s (At (start body)) in
       let t = alignmentTaken order s (b .then) in
-      let f = answered (textsChecked (t .then) (b .pane) body) end reach e in
-      let y = alignment-went (body - 8) reach s s′ a order body (b .then) (f .cursor) (texts-cleared (t .then) (b .pane) body (f .cursor) (f .here)) in
+      let f = ended (t .then) (b .pane) body z end reach e in
+      let y = alignment-went (body - 8) reach s s′ a order body (b .then) (f .answer .cursor) (f .stood) in
       let x = pane-went (body - 8) reach s s′ a order (At (start body)) (y .from) (y .here) in
-      ran-so (own-ran f y x) (λ u. rw (u .0, u .1))
+      ran-so (own-ran (f .answer) y x) (λ u. rw (u .0, u .1))
 
-  pic : Runs order Pic1 body l
-  unfolding bodyRead bodyLists pictureRead quadsRead
+  pic : Runs order Pic1 body z l
+  unfolding bodyRead bodyLists pictureRead pictureGiven pictureMeasured quadsRead quadsFilled
   pic s s′ end reach e a =
       let b = paneTaken order s (At (start body)) in
       let t = pictureTaken order s (b .then) in
-      let f = answered (textsChecked (t .then) (b .pane) body) end reach e in
-      let y = picture-went (body - 8) reach s s′ a order body (b .then) (f .cursor) (texts-cleared (t .then) (b .pane) body (f .cursor) (f .here)) in
+      let f = ended (t .then) (b .pane) body z end reach e in
+      let y = picture-went (body - 8) reach s s′ a order body (b .then) (f .answer .cursor) (f .stood) in
       let x = pane-went (body - 8) reach s s′ a order (At (start body)) (y .from) (y .here) in
-      ran-so (own-ran f y x) (λ u. rw (u .0, u .1 .0, u .1 .1))
+      ran-so (own-ran (f .answer) y x) (λ u. rw (u .0, u .1 .0, u .1 .1))
 
-  wnd : Runs order Wnd1 body l
-  unfolding bodyRead bodyLists windowRead readQuads readFrames readPlace ownTaken
+  wnd : Runs order Wnd1 body z l
+  unfolding bodyRead bodyLists windowRead windowGiven windowMeasured readQuads window.quadsFilled readFrames framesFilled
   wnd s s′ end reach e a =
       let b = paneTaken order s (At (start body)) in
       let t = windowTaken order s (b .then) body in
-      let f = answered (textsChecked (t .then) (b .pane) body) end reach e in
-      let y = window-went (body - 8) reach s s′ a order body (omega arith) (b .then) (f .cursor) (texts-cleared (t .then) (b .pane) body (f .cursor) (f .here)) in
+      let f = ended (t .then) (b .pane) body z end reach e in
+      let y = window-went (body - 8) reach s s′ a order body (omega arith) (b .then) (f .answer .cursor) (f .stood) in
       let x = pane-went (body - 8) reach s s′ a order (At (start body)) (y .from) (y .here) in
-      ran-so (own-ran f y x) (λ u. rw (u .0, u .1 .0, u .1 .1, u .1 .2))
+      ran-so (own-ran (f .answer) y x) (λ u. rw (u .0, u .1 .0, u .1 .1, u .1 .2))
 
-  txt : Runs order Txt1 body l
-  unfolding bodyRead bodyLists textBoxRead unitsAfter linesAfter textBoxEnd textBoxOwn
+  txt : Runs order Txt1 body z l
+  unfolding bodyRead bodyLists textBoxRead textBoxGiven textBoxMeasured unitsAfter unitsFilled linesAfter linesFilled
   txt s s′ end reach e a =
       let b = paneTaken order s (At (start body)) in
       let t = textBoxTaken order s (b .then) body in
       let q = textsChecked (t .then) (b .pane) body in
       let name : Label = t .«text_box» .label in
-      let f = answered (labelChecked q s name) end reach e in
-      let g = texts-cleared (t .then) (b .pane) body (f .cursor) (label-cleared q s name (f .cursor) (f .here)) in
+      let f = answered (reachChecked (labelChecked q s name) z) end reach e in
+      let h = reach-cleared (labelChecked q s name) z (f .cursor) (f .here) in
+      let g = texts-cleared (t .then) (b .pane) body (f .cursor) (label-cleared q s name (f .cursor) h) in
       let y = text-box-went (body - 8) reach s s′ a order body (omega arith) (b .then) (f .cursor) g in
       let x = pane-went (body - 8) reach s s′ a order (At (start body)) (y .from) (y .here) in
       ran-so (own-ran f y x) (λ u.
@@ -185,11 +201,11 @@ module _ (order : ByteOrder) (body : ℕ) (l : Lists) where
         label-same q s s′ name (u .1 .1),
         u .1 .2,
         u .1 .3,
-        label-unless (labelChecked q s name) s s′ (t .«text_box») (u .1 .1),
+        label-unless (reachChecked (labelChecked q s name) z) s s′ (t .«text_box») (u .1 .1),
       ))
 
   -- every kind
-  pub body-ran : (k : Kind) → Runs order k body l
+  pub body-ran : (k : Kind) → Runs order k body z l
   body-ran Pan1 = pan
   body-ran Pic1 = pic
   body-ran Txt1 = txt

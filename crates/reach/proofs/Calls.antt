@@ -11,20 +11,19 @@ use Rattle.core.specs.declared.cursor.Cursor.{Cursor}
 use Rattle.core.specs.declared.cursor.Place.{Place}
 use Rattle.core.specs.declared.cursor.Place.the-variants.{At, Refused}
 use Rattle.core_checks.specs.Checks.{bodyStart, parsedOf}
+use Rattle.core_checks.specs.declared.checks.Extent.the-variants.{Buffer}
 use Rattle.core_checks.specs.declared.checks.Parsed.the-variants as Parseds
 use Rattle.core_checks.proofs.Checked.{BodyOk, body-started, body-passes, list-cleared, list-passes}
-use Rattle.pane_read.specs.Pane.{paneTaken}
-use Rattle.pane_read.proofs.Run.{pane-stays}
-use Rattle.pane.proofs.Calls.{texts-stay}
-use Rattle.pane.specs.Body.{paneRead, paneParsed}
-use Rattle.picture.specs.Body.{pictureRead, pictureStart, pictureParsed, quadsParsed}
-use Rattle.picture.proofs.Came.{picture-stays}
-use Rattle.text_box.specs.Body.{textBoxStart, textBoxRead}
-use Rattle.text_box.proofs.Calls.{end-refused}
-use Rattle.window.specs.Body.{readStart, ownTaken, readPlace, windowRead, windowParsed, parsedQuads, parsedFrames}
-use Rattle.window_read.proofs.Run.{window-stays}
-use Rattle.alignment.specs.Body.{alignmentRead, alignmentParsed}
-use Rattle.alignment.proofs.Calls.{alignment-stays}
+use Rattle.pane.specs.Body.{paneGiven, paneRead, paneParsed}
+use Rattle.pane.proofs.Calls as pane
+use Rattle.picture.specs.Body.{pictureGiven, pictureRead, pictureStart, pictureParsed, quadsParsed}
+use Rattle.picture.proofs.Calls as picture
+use Rattle.text_box.specs.Body.{textBoxGiven, textBoxStart, textBoxRead}
+use Rattle.text_box.proofs.Calls as text-box
+use Rattle.window.specs.Body.{readStart, windowGiven, windowRead, windowParsed, parsedQuads, parsedFrames}
+use Rattle.window.proofs.Calls as window
+use Rattle.alignment.specs.Body.{alignmentGiven, alignmentRead, alignmentParsed}
+use Rattle.alignment.proofs.Calls as alignment
 use Rattle.strip_records.specs.Whole.{Lists}
 use Rattle.strip_records.specs.declared.kind.Kind.{Kind}
 use Rattle.strip_records.specs.declared.kind.Kind.the-variants.{Pan1, Pic1, Txt1, Wnd1, Ali1}
@@ -43,7 +42,7 @@ startOf Txt1 n body l = textBoxStart n (length (l .units)) (length (l .lines)) b
 startOf Wnd1 n body l = readStart n body (l .quads) (l .frames)
 startOf Ali1 n body l = bodyStart n body
 
-parsed-is : (order : ByteOrder) (k : Kind) (s : List ℕ) (body : ℕ) (l : Lists) → bodyParsed order k s body l ≡ bodyRead order k s (startOf k (length s) body l) body
+parsed-is : (order : ByteOrder) (k : Kind) (s : List ℕ) (body : ℕ) (l : Lists) → bodyParsed order k s body l ≡ bodyRead order k s (startOf k (length s) body l) body Buffer
 unfolding bodyParsed bodyRead startOf paneParsed pictureParsed windowParsed alignmentParsed
 parsed-is order Pan1 s body l = refl
 parsed-is order Pic1 s body l = refl
@@ -51,7 +50,7 @@ parsed-is order Txt1 s body l = refl
 parsed-is order Wnd1 s body l = refl
 parsed-is order Ali1 s body l = refl
 
-lists-is : (order : ByteOrder) (k : Kind) (s : List ℕ) (body : ℕ) (l : Lists) → listsParsed order k s body l ≡ bodyLists order k s (startOf k (length s) body l) body l
+lists-is : (order : ByteOrder) (k : Kind) (s : List ℕ) (body : ℕ) (l : Lists) → listsParsed order k s body l ≡ bodyLists order k s (startOf k (length s) body l) body Buffer l
 unfolding listsParsed bodyLists startOf quadsParsed parsedQuads parsedFrames
 lists-is order Pan1 s body l = refl
 lists-is order Pic1 s body l = refl
@@ -60,13 +59,13 @@ lists-is order Wnd1 s body l = refl
 lists-is order Ali1 s body l = refl
 
 -- a refused run answers so
-body-stays : (order : ByteOrder) (k : Kind) (s : List ℕ) (why : Refusal) (body : ℕ) → bodyRead order k s (Refused why) body .answer ≡ Parseds.Refused why
-unfolding bodyRead paneRead pictureRead textBoxRead windowRead readPlace ownTaken alignmentRead parsedOf
-body-stays order Pan1 s why body = rw (pane-stays order s why, texts-stay why (paneTaken order s (Refused why) .pane) body)
-body-stays order Pic1 s why body = rw (pane-stays order s why, picture-stays order s why, texts-stay why (paneTaken order s (Refused why) .pane) body)
-body-stays order Txt1 s why body = rw (end-refused order s why body)
-body-stays order Wnd1 s why body = rw (pane-stays order s why, window-stays order s why body, texts-stay why (paneTaken order s (Refused why) .pane) body)
-body-stays order Ali1 s why body = rw (pane-stays order s why, alignment-stays order s why, texts-stay why (paneTaken order s (Refused why) .pane) body)
+body-stays : (order : ByteOrder) (k : Kind) (s : List ℕ) (why : Refusal) (body : ℕ) → bodyRead order k s (Refused why) body Buffer .answer ≡ Parseds.Refused why
+unfolding bodyRead paneRead paneGiven pictureRead pictureGiven textBoxRead textBoxGiven windowRead windowGiven alignmentRead alignmentGiven parsedOf
+body-stays order Pan1 s why body = rw (pane.measured-stays order s why body Buffer)
+body-stays order Pic1 s why body = rw (picture.measured-stays order s why body Buffer)
+body-stays order Txt1 s why body = rw (text-box.measured-stays order s why body Buffer)
+body-stays order Wnd1 s why body = rw (window.measured-stays order s why body Buffer)
+body-stays order Ali1 s why body = rw (alignment.measured-stays order s why body Buffer)
 
 -- what the checks 1 to 3 tell, and that they let any other buffer of an allowed length through that holds B
 record Started (k : Kind) (n body : ℕ) (l : Lists) : Type 0 where
@@ -93,7 +92,7 @@ module _ (order : ByteOrder) (k : Kind) (body : ℕ) (l : Lists) where
   abbrev Accepted : List ℕ → ℕ → ℕ → Type 0
   Accepted s end reach = callSeen order k body l s .read .answer ≡ Parseds.Read end reach
 
-  started-by : (s : List ℕ) (end reach : ℕ) (q : Place) → startOf k (length s) body l ≡ q → bodyRead order k s q body .answer ≡ Parseds.Read end reach → Started k (length s) body l
+  started-by : (s : List ℕ) (end reach : ℕ) (q : Place) → startOf k (length s) body l ≡ q → bodyRead order k s q body Buffer .answer ≡ Parseds.Read end reach → Started k (length s) body l
   started-by s end reach (At c) g e = started k (length s) body l c g
   started-by s end reach (Refused why) g e = let z : _≡_ {A = ℕ} 0 1 = cc (body-stays order k s why body) in absurd (omega arith)
 
@@ -101,7 +100,7 @@ module _ (order : ByteOrder) (k : Kind) (body : ℕ) (l : Lists) where
   begun s end reach e = started-by s end reach (startOf k (length s) body l) refl (ap (λ r. r .answer) (sym (parsed-is order k s body l)) ∙ e)
 
   -- after the checks a call is the run
-  call-is : (s : List ℕ) → startOf k (length s) body l ≡ At (start body) → callSeen order k body l s ≡ bodySeen order k body l s
+  call-is : (s : List ℕ) → startOf k (length s) body l ≡ At (start body) → callSeen order k body l s ≡ bodySeen order k body Buffer l s
   call-is s h = rw (parsed-is order k s body l, lists-is order k s body l, h)
 
   -- THE PART THAT A CALL NEEDED: another buffer, no shorter and no longer than check 1 lets through, that has the bytes of [B − 8, reach) there gives the
@@ -113,13 +112,13 @@ module _ (order : ByteOrder) (k : Kind) (body : ℕ) (l : Lists) where
       let x = call-is s (b .again (length s) (b .ok)) in
       let fit : body ≤ length s′ = omega (arith, b .ok .within, a .long) in
       let y = call-is s′ (b .again (length s′) (record { most = small; least = b .ok .least; within = fit })) in
-      y ∙ needed order k body l s s′ end reach (ap (λ (v : BodySeen). v .read .answer) (sym x) ∙ e) a ∙ sym x
+      y ∙ needed order k body Buffer l s s′ end reach (ap (λ (v : BodySeen). v .read .answer) (sym x) ∙ e) a ∙ sym x
 
   pub call-bounds : (s : List ℕ) (end reach : ℕ) → Accepted s end reach → Bounds k body (length s) end reach
   call-bounds s end reach e =
       let b = begun s end reach e in
       let x = call-is s (b .again (length s) (b .ok)) in
-      bounds order k body l s end reach (ap (λ (v : BodySeen). v .read .answer) (sym x) ∙ e)
+      bounds order k body Buffer l s end reach (ap (λ (v : BodySeen). v .read .answer) (sym x) ∙ e)
 
   -- AND NO LESS: of a buffer that is cut below its reach the call is refused
   pub call-cut : (s : List ℕ) (end reach n : ℕ) → Accepted s end reach → n < reach → BodyRefused (callSeen order k body l (take n s) .read .answer)

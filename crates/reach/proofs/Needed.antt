@@ -1,5 +1,6 @@
 -- WHAT THE REACH OF A BODY READ MEANS. A body at B is read of a buffer s, and the read is accepted with an end and a reach.
--- Every statement is of the run that follows the checks 1 to 3, of any kind, in any byte order, with any lists lent. `Calls` has them of the calls.
+-- Every statement is of the run that follows the checks 1 to 3, of any kind, in any byte order, in a buffer or in a section, with any lists lent. `Calls` has
+-- them of the calls.
 use mathlib.Core.Path.{_≡_, refl, sym, ap, _∙_}
 use Prim.Native.Nat.{ℕ, _-_, _≤_, _<_}
 use native.Mathlib.Omega.{arith}
@@ -9,6 +10,7 @@ use lib.Seq.{getD-take}
 use Rattle.core.specs.Taken.{start}
 use Rattle.core.specs.declared.cursor.ByteOrder.{ByteOrder}
 use Rattle.core.proofs.Cursors.{pos-start, reach-start}
+use Rattle.core_checks.specs.declared.checks.Extent.{Extent}
 use Rattle.core_checks.specs.declared.checks.Parsed.{Parsed}
 use Rattle.core_checks.specs.declared.checks.Parsed.the-variants as Parseds
 use Rattle.strip_records.specs.Whole.{Lists}
@@ -45,21 +47,21 @@ module _ (lo : ℕ) (seen : List ℕ → BodySeen) (s : List ℕ) (n end reach :
   pub cut-of : BodyRefused (seen (take n s) .read .answer)
   cut-of = cut-by _ refl
 
-module _ (order : ByteOrder) (k : Kind) (body : ℕ) (l : Lists) where
+module _ (order : ByteOrder) (k : Kind) (body : ℕ) (z : Extent) (l : Lists) where
   abbrev Accepted : List ℕ → ℕ → ℕ → Type 0
-  Accepted s end reach = bodySeen order k body l s .read .answer ≡ Parseds.Read end reach
+  Accepted s end reach = bodySeen order k body z l s .read .answer ≡ Parseds.Read end reach
 
   -- THE PART THAT A PANE NEEDED: the bytes of [B − 8, reach) decide the read. Another buffer, no shorter, that has these bytes there gives the same
   -- answer, record, lists and label
-  pub needed : (s s′ : List ℕ) (end reach : ℕ) → Accepted s end reach → Agrees (body - 8) reach s s′ → bodySeen order k body l s′ ≡ bodySeen order k body l s
+  pub needed : (s s′ : List ℕ) (end reach : ℕ) → Accepted s end reach → Agrees (body - 8) reach s s′ → bodySeen order k body z l s′ ≡ bodySeen order k body z l s
   needed s s′ end reach e a =
-      let x = body-ran order body l k s s′ end reach e a in
+      let x = body-ran order body z l k s s′ end reach e a in
       let c : x .went .from ≡ start body = cc (x .went .here) in
       x .went .same (rw (c, pos-start) (omega arith)) (omega (arith, x .far))
 
   pub bounds : (s : List ℕ) (end reach : ℕ) → Accepted s end reach → Bounds k body (length s) end reach
   bounds s end reach e =
-      let x = body-ran order body l k s s end reach e (agrees-self (body - 8) reach s) in
+      let x = body-ran order body z l k s s end reach e (agrees-self (body - 8) reach s) in
       let c : x .went .from ≡ start body = cc (x .went .here) in
       let v = x .went .how c in
       let i : x .went .from .reach ≤ length s = rw (c, reach-start) (omega (arith, v .base)) in
@@ -71,10 +73,10 @@ module _ (order : ByteOrder) (k : Kind) (body : ℕ) (l : Lists) where
       }
 
   -- AND NO LESS: of a buffer that is cut below its reach the read is refused
-  pub cut : (s : List ℕ) (end reach n : ℕ) → Accepted s end reach → n < reach → BodyRefused (bodySeen order k body l (take n s) .read .answer)
+  pub cut : (s : List ℕ) (end reach n : ℕ) → Accepted s end reach → n < reach → BodyRefused (bodySeen order k body z l (take n s) .read .answer)
   cut s end reach n e m =
-      cut-of (body - 8) (bodySeen order k body l) s n end reach e m (λ end′ reach′ g. bounds (take n s) end′ reach′ g .within) (λ end′ reach′ g a. needed (take n s) s end′ reach′ g a)
+      cut-of (body - 8) (bodySeen order k body z l) s n end reach e m (λ end′ reach′ g. bounds (take n s) end′ reach′ g .within) (λ end′ reach′ g a. needed (take n s) s end′ reach′ g a)
 
   -- so bytes after the buffer change nothing
-  pub read-extends : (s more : List ℕ) (end reach : ℕ) → Accepted s end reach → bodySeen order k body l (s ++ more) ≡ bodySeen order k body l s
+  pub read-extends : (s more : List ℕ) (end reach : ℕ) → Accepted s end reach → bodySeen order k body z l (s ++ more) ≡ bodySeen order k body z l s
   read-extends s more end reach e = needed s (s ++ more) end reach e (agrees-longer (body - 8) reach s more (bounds s end reach e .within))

@@ -16,6 +16,8 @@ use Rattle.core.specs.declared.cursor.Place.{Place}
 use Rattle.core.specs.declared.cursor.Place.the-variants.{At, Refused}
 use Rattle.core.proofs.Cursors.{start-advanced, pos-start, reach-start}
 use Rattle.core.proofs.Runs.{cleared}
+use Rattle.core_checks.specs.declared.checks.Extent.{Extent}
+use Rattle.core_checks.specs.declared.checks.Extent.the-variants as Extents
 use Rattle.core_checks.specs.declared.checks.Parsed.{Parsed}
 use Rattle.core_checks.specs.declared.checks.Parsed.the-variants as Parseds
 use Rattle.core_checks.proofs.Checked.{SectionOk, or-false}
@@ -35,6 +37,7 @@ use Rattle.strip_kinds.specs.Body.{bodyRead}
 use Rattle.strip_read.specs.Read.{refusedWith, endedWith, passedWith, finished, readBody, byKind, listsByKind, orRefused, readAt, readSection, listsAt, listsAfter}
 use Rattle.strip_read.specs.declared.read.SectionRead.{SectionRead}
 use Rattle.strip_read.proofs.Cleared.{read-started}
+use Rattle.strip_read.proofs.Moves.{Onward, section-on}
 use Rattle.strip.proofs.Back.{start-good, section-end}
 use Rattle.reach.specs.Agrees.{Agrees}
 use Rattle.reach.specs.Seen.{BodySeen, bodySeen, SectionSeen, sectionSeen}
@@ -151,8 +154,8 @@ sectionOf end next reach b = record {
 }
 
 seen-as : (order : ByteOrder) (s : List ℕ) (p : ℕ) (l : Lists) (h : Header) (kind : Kind) → Opens order s p l h kind → (end reach : ℕ)
-    → bodySeen order kind (p + 8) l s .read .answer ≡ Parseds.Read end reach
-    → sectionSeen order p l s ≡ sectionOf end (p + h .size) reach (bodySeen order kind (p + 8) l s)
+    → bodySeen order kind (p + 8) (Extents.Section (p + h .size)) l s .read .answer ≡ Parseds.Read end reach
+    → sectionSeen order p l s ≡ sectionOf end (p + h .size) reach (bodySeen order kind (p + 8) (Extents.Section (p + h .size)) l s)
 unfolding readSection listsAfter orRefused unlessRefused readAt listsAt byKind listsByKind readBody finished
 seen-as order s p l h kind o end reach e = rw (o .begins, o .more, o .header, o .body, o .is, e)
 
@@ -178,7 +181,7 @@ record Opened (order : ByteOrder) (s : List ℕ) (p : ℕ) (l : Lists) (end next
   header : Header
   kind : Kind
   opens : Opens order s p l header kind
-  read : bodySeen order kind (p + 8) l s .read .answer ≡ Parseds.Read end reach
+  read : bodySeen order kind (p + 8) (Extents.Section (p + header .size)) l s .read .answer ≡ Parseds.Read end reach
   size : p + header .size ≡ next
   room : p + 8 ≤ length s
   whole : p % 4 ≡ 0
@@ -186,10 +189,11 @@ record Opened (order : ByteOrder) (s : List ℕ) (p : ℕ) (l : Lists) (end next
   full : Full l
 
 body-pane : (order : ByteOrder) (s : List ℕ) (k : KindFound) (kind : Kind) (q : Place) (c : Cursor) (body next x n f : ℕ) → k ≡ Is kind → q ≡ At c
-    → byKind order k s q body next .answer ≡ Sections.Pane x n f → (bodyRead order kind s (At c) body .answer ≡ Parseds.Read x f) × (next ≡ n)
+    → byKind order k s q body next .answer ≡ Sections.Pane x n f → (bodyRead order kind s (At c) body (Extents.Section next) .answer ≡ Parseds.Read x f) × (next ≡ n)
 unfolding byKind readBody
 body-pane order s k kind q c body next x n f g h e =
-    finished-pane (bodyRead order kind s (At c) body .answer) (bodyRead order kind s (At c) body .«record») next x n f (rw (g, h) at e)
+    let b = bodyRead order kind s (At c) body (Extents.Section next) in
+    finished-pane (b .answer) (b .«record») next x n f (rw (g, h) at e)
 
 opened : (order : ByteOrder) (s : List ℕ) (p : ℕ) (l : Lists) (end next reach : ℕ) → readSection order s p l .answer ≡ Sections.Pane end next reach → Opened order s p l end next reach
 unfolding Found
@@ -228,22 +232,26 @@ opens-still order s s′ p l end next reach o a far small =
 -- ---- the theorems
 
 -- the record is of the kind that was read
-kind-read : (order : ByteOrder) (k : Kind) (s : List ℕ) (q : Place) (body : ℕ) → bodyRead order k s q body .«record» .kind ≡ k
+kind-read : (order : ByteOrder) (k : Kind) (s : List ℕ) (q : Place) (body : ℕ) (z : Extent) → bodyRead order k s q body z .«record» .kind ≡ k
 unfolding bodyRead
-kind-read order Pan1 s q body = refl
-kind-read order Pic1 s q body = refl
-kind-read order Txt1 s q body = refl
-kind-read order Wnd1 s q body = refl
-kind-read order Ali1 s q body = refl
+kind-read order Pan1 s q body z = refl
+kind-read order Pic1 s q body z = refl
+kind-read order Txt1 s q body z = refl
+kind-read order Wnd1 s q body z = refl
+kind-read order Ali1 s q body z = refl
 
 -- what a section that is there, of a kind, is not
 kind-not : (order : ByteOrder) (s : List ℕ) (k : KindFound) (kind : Kind) (q : Place) (body next n : ℕ) → k ≡ Is kind → byKind order k s q body next .answer ≡ Sections.Passed n → ⊥
 unfolding byKind readBody
-kind-not order s k kind q body next n h e = body-not (bodyRead order kind s q body .answer) (bodyRead order kind s q body .«record») next .0 n (rw h at e)
+kind-not order s k kind q body next n h e =
+    let b = bodyRead order kind s q body (Extents.Section next) in
+    body-not (b .answer) (b .«record») next .0 n (rw h at e)
 
 kind-no-end : (order : ByteOrder) (k : KindFound) (s : List ℕ) (q : Place) (body next : ℕ) → byKind order k s q body next .answer ≡ Sections.End → ⊥
 unfolding byKind readBody passedWith
-kind-no-end order (Is kind) s q body next e = body-not (bodyRead order kind s q body .answer) (bodyRead order kind s q body .«record») next .1 e
+kind-no-end order (Is kind) s q body next e =
+    let b = bodyRead order kind s q body (Extents.Section next) in
+    body-not (b .answer) (b .«record») next .1 e
 kind-no-end order Other s q body next e = let z : _≡_ {A = ℕ} 0 1 = cc in omega arith
 
 end-not : (order : ByteOrder) (s : List ℕ) (p : ℕ) (l : Lists) → (p ≡ length s → ⊥) → readSection order s p l .answer ≡ Sections.End → ⊥
@@ -263,8 +271,8 @@ module _ (order : ByteOrder) (p : ℕ) (l : Lists) where
   section-bounds s end next reach e =
       let o = opened order s p l end next reach e in
       let x = seen-as order s p l (o .header) (o .kind) (o .opens) end reach (o .read) in
-      let k : sectionSeen order p l s .read .«record» .kind ≡ o .kind = ap (λ (v : SectionSeen). v .read .«record» .kind) x ∙ kind-read order (o .kind) s (At (start (p + 8))) (p + 8) in
-      subst (λ (z : Kind). Bounds z (p + 8) (length s) end reach) (sym k) (bounds order (o .kind) (p + 8) l s end reach (o .read))
+      let k : sectionSeen order p l s .read .«record» .kind ≡ o .kind = ap (λ (v : SectionSeen). v .read .«record» .kind) x ∙ kind-read order (o .kind) s (At (start (p + 8))) (p + 8) (Extents.Section (p + o .header .size)) in
+      subst (λ (z : Kind). Bounds z (p + 8) (length s) end reach) (sym k) (bounds order (o .kind) (p + 8) (Extents.Section (p + o .header .size)) l s end reach (o .read))
 
   -- THE PART THAT A SECTION NEEDED: the bytes of [P, reach) decide the read. Another buffer, no shorter and no longer than check 1 lets through, that
   -- has these bytes there gives the same answer, record, lists and label
@@ -274,13 +282,24 @@ module _ (order : ByteOrder) (p : ℕ) (l : Lists) where
       let o = opened order s p l end next reach e in
       let far : p + 8 ≤ reach = omega (arith, section-bounds s end next reach e .fixed) in
       let i : p + 8 - 8 ≡ p = omega arith in
-      let n = needed order (o .kind) (p + 8) l s s′ end reach (o .read) (rw i a) in
+      let n = needed order (o .kind) (p + 8) (Extents.Section (p + o .header .size)) l s s′ end reach (o .read) (rw i a) in
       let x = seen-as order s p l (o .header) (o .kind) (o .opens) end reach (o .read) in
       let y = seen-as order s′ p l (o .header) (o .kind) (opens-still order s s′ p l end next reach o a far small) end reach
       (ap (λ (b : BodySeen). b .read .answer) n ∙ o .read) in
       y ∙ ap (sectionOf end (p + o .header .size) reach) n ∙ sym x
 
-  -- so bytes after the buffer change nothing
+  -- A PANE THAT IS READ KEEPS TO ITS SECTION
+  pub section-keeps : (s : List ℕ) (end next reach : ℕ) → IsPane s end next reach → reach ≤ next
+  unfolding Onward
+  section-keeps s end next reach e = subst (Onward (length s) p) e (section-on order s p l) .2
+
+  -- so the bytes of its section, [P, P + size), decide it
+  pub section-alone : (s s′ : List ℕ) (end next reach : ℕ) → IsPane s end next reach → Agrees p next s s′ → length s′ ≤ 16777216
+      → sectionSeen order p l s′ ≡ sectionSeen order p l s
+  section-alone s s′ end next reach e a small =
+      section-needed s s′ end next reach e (record { long = a .long; same = λ i h m. a .same i h (omega (arith, m, section-keeps s end next reach e)) }) small
+
+  -- AN ACCEPTED READ IS THE SAME IN A LONGER STRIP: bytes after the buffer change nothing
   pub section-extends : (s more : List ℕ) (end next reach : ℕ) → IsPane s end next reach → length (s ++ more) ≤ 16777216
       → sectionSeen order p l (s ++ more) ≡ sectionSeen order p l s
   section-extends s more end next reach e small =

@@ -4,6 +4,7 @@ use mathlib.Core.List.{List}
 use Rattle.core.specs.Taken.{start}
 use Rattle.core.specs.declared.cursor.ByteOrder.{ByteOrder}
 use Rattle.core.specs.declared.cursor.Place.the-variants.{At}
+use Rattle.core_checks.specs.declared.checks.Extent.{Extent}
 use Rattle.strip_records.specs.Whole.{Lists}
 use Rattle.strip_records.specs.declared.kind.Kind.{Kind}
 use Rattle.strip_kinds.specs.Body.{bodyRead, bodyLists, bodyParsed, listsParsed}
@@ -18,12 +19,12 @@ pub record BodySeen : Type 0 where
   pub lists : Lists
   pub label : List ℕ
 
--- of a run that begins at B, after the checks 1 to 3
-abbrev pub bodySeen : ByteOrder → Kind → ℕ → Lists → List ℕ → BodySeen
-bodySeen order k body l s = record {
-  read = bodyRead order k s (At (start body)) body;
-  lists = bodyLists order k s (At (start body)) body l;
-  label = labelIn s (bodyRead order k s (At (start body)) body .«record»);
+-- of a run that begins at B, after the checks 1 to 3, in a buffer or in a section
+abbrev pub bodySeen : ByteOrder → Kind → ℕ → Extent → Lists → List ℕ → BodySeen
+bodySeen order k body x l s = record {
+  read = bodyRead order k s (At (start body)) body x;
+  lists = bodyLists order k s (At (start body)) body x l;
+  label = labelIn s (bodyRead order k s (At (start body)) body x .«record»);
 }
 
 -- of the call

@@ -16,7 +16,8 @@ use Rattle.core.specs.declared.cursor.ByteOrder.the-variants.{Little}
 use Rattle.core.specs.declared.cursor.Place.the-variants.{At}
 use Rattle.core.proofs.Numbers.{length-bytes}
 use Rattle.core.proofs.Cursors.{pos-start, pos-advanced, advanced-zero, reach-start, reach-level}
-use Rattle.core_checks.proofs.Checked.{SectionOk, section-passes, list-passes}
+use Rattle.core_checks.specs.declared.checks.Extent.the-variants as Extents
+use Rattle.core_checks.proofs.Checked.{SectionOk, section-passes, list-passes, reach-passes}
 use Rattle.core.proofs.Back.{Holds, holds-left, holds-fits, cut, number-at}
 use Rattle.pane.proofs.Cleared.{Good, sound}
 use Rattle.pane.proofs.Back.{length-pane}
@@ -162,7 +163,7 @@ pub record SectionBack (order : ByteOrder) (s : List ℕ) (p : ℕ) (l : Lists) 
 -- its parts
 record Parts (order : ByteOrder) (s : List ℕ) (p : ℕ) (w : Whole) : Type 0 where
   header : _≡_ {A = Header} (headerTaken order s p) (record { letters = lettersOf (w .pane .kind); size = sizeOf p w; then = At (advanced (start p) 8) })
-  body : BodyBack order s (advanced (start p) 8) (p + 8) (w .pane .kind) w
+  body : BodyBack order s (advanced (start p) 8) (p + 8) (Extents.Section (sectionEnd p w)) (w .pane .kind) w
 
 parts : {s : List ℕ} (order : ByteOrder) (p : ℕ) (w : Whole) → GoodWhole w → length s ≤ 16777216 → p % 4 ≡ 0 → Holds s p (section order p w) → Parts order s p w
 unfolding section
@@ -182,7 +183,7 @@ parts {s} order p w g small whole h =
     reach-level (start p) (omega (arith, reach-start p, pos-start p)) 8 ∙ omega (arith, pos-advanced (start p) 8) in
     record {
       header = header-back order p k z (size-some n) (size-whole n) f (omega (arith, f, small)) h₁ h₂;
-      body = body-back order (advanced (start p) 8) (p + 8) k w (g .typed) (g .good) (g .own) (omega arith) (omega arith) here level h₃;
+      body = body-back order (advanced (start p) 8) (p + 8) (Extents.Section (sectionEnd p w)) k w (λ d e. reach-passes d (sectionEnd p w) (omega (arith, e, reach-inside p w))) (g .typed) (g .good) (g .own) (omega arith) (omega arith) here level h₃;
     }
 
 pub start-good : (n p : ℕ) (l : Lists) → SectionOk n p → Full l

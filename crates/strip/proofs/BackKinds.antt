@@ -6,7 +6,8 @@ use mathlib.Core.List.{List}
 use lib.ListN.{length, take, drop}
 use lib.Seq.{take-append-seam}
 use Rattle.core.specs.Taken.{advanced, over}
-use Rattle.core_checks.specs.Checks.{parsedOf, unlessRefused}
+use Rattle.core_checks.specs.Checks.{reachChecked, parsedOf, unlessRefused}
+use Rattle.core_checks.specs.declared.checks.Extent.{Extent}
 use Rattle.core.specs.declared.cursor.ByteOrder.{ByteOrder}
 use Rattle.core.specs.declared.cursor.Cursor.{Cursor}
 use Rattle.core.specs.declared.cursor.Place.the-variants.{At}
@@ -14,25 +15,27 @@ use Rattle.core_checks.specs.declared.checks.Parsed.the-variants as Parseds
 use Rattle.core.proofs.Cursors.{pos-advanced, pos-moved, advanced-more, reach-level}
 use Rattle.core.proofs.Back.{Holds, split, Fit}
 use Rattle.pane_read.specs.Pane.{encodePane}
-use Rattle.pane.specs.Body.{paneRead}
+use Rattle.pane.specs.Body.{paneMeasured, paneGiven, paneRead}
 use Rattle.pane.proofs.Cleared.{Good, sound}
 use Rattle.pane.proofs.Back.{readBack, length-pane, pane-back, texts-back}
-use Rattle.picture_fields.specs.Picture.{blankPicture, pictureQuads, pictureLength, encodePicture}
+use Rattle.picture_fields.specs.Picture.{pictureTaken, blankPicture, pictureQuads, pictureLength, encodePicture}
 use Rattle.picture.specs.Body as picture
+use Rattle.picture.specs.declared.body.PictureMeasured.{PictureMeasured}
 use Rattle.picture_fields.specs.declared.PicturePane.{PicturePane}
 use Rattle.picture.proofs.Back as picture-laws
-use Rattle.text_box_read.specs.TextBox.{blankTextBox}
-use Rattle.text_box_read.specs.TextBox.{textBoxUnits, textBoxLines}
+use Rattle.text_box_read.specs.TextBox.{textBoxTaken, blankTextBox, textBoxUnits, textBoxLines}
 use Rattle.text_box_caption.specs.Caption.{labelOf}
 use Rattle.text_box_write.specs.Written.{encodeTextBox}
 use Rattle.text_box.specs.Body as text-box
 use Rattle.text_box.specs.Same as text-box-same
+use Rattle.text_box.specs.declared.body.TextBoxMeasured.{TextBoxMeasured}
 use Rattle.text_box_read.specs.declared.TextBoxPane.{TextBoxPane}
 use Rattle.text_box_read.specs.declared.TextBoxTaken.{TextBoxTaken}
 use Rattle.text_box.proofs.Equal as text-box-laws
-use Rattle.window_read.specs.Window.{blankWindow}
+use Rattle.window_read.specs.Window.{windowTaken, blankWindow}
 use Rattle.window_write.specs.Write.{windowLength, encodeWindow}
 use Rattle.window.specs.Body as window
+use Rattle.window.specs.declared.body.WindowMeasured.{WindowMeasured}
 use Rattle.window_read.specs.declared.WindowPane.{WindowPane}
 use Rattle.window.proofs.Back as window-laws
 use Rattle.window.proofs.Fields.{readBackContent}
@@ -109,10 +112,14 @@ bodyEnd Ali1 body w = body + 88
 abbrev pub bodyReach : Kind → ℕ → Whole → ℕ
 bodyReach k body w = body + bodyLength k body w
 
+-- an extent that such a body keeps to
+abbrev pub Kept : Extent → Kind → ℕ → Whole → Type 0
+Kept x k body w = (d : Cursor) → d .reach ≡ bodyReach k body w → reachChecked (At d) x ≡ At d
+
 -- such a body is read so, and its own part is equal to that of w
-pub record BodyBack (order : ByteOrder) (s : List ℕ) (c : Cursor) (body : ℕ) (k : Kind) (w : Whole) : Type 0 where
-  pub read : _≡_ {A = BodyRead} (bodyRead order k s (At c) body) (record { answer = Parseds.Read (bodyEnd k body w) (bodyReach k body w); «record» = readRecord k c body w })
-  pub own : (l : Lists) → SameOwn k (readWhole s (readRecord k c body w) (bodyLists order k s (At c) body l)) w
+pub record BodyBack (order : ByteOrder) (s : List ℕ) (c : Cursor) (body : ℕ) (x : Extent) (k : Kind) (w : Whole) : Type 0 where
+  pub read : _≡_ {A = BodyRead} (bodyRead order k s (At c) body x) (record { answer = Parseds.Read (bodyEnd k body w) (bodyReach k body w); «record» = readRecord k c body w })
+  pub own : (l : Lists) → SameOwn k (readWhole s (readRecord k c body w) (bodyLists order k s (At c) body x l)) w
 
 -- the answer of a run by its two figures
 parsed-at : (d : Cursor) (end reach : ℕ) → d .pos ≡ end → d .reach ≡ reach → parsedOf (At d) ≡ Parseds.Read end reach
@@ -124,28 +131,36 @@ front : (n : ℕ) (l old : List ℕ) → n ≡ length l → take n (over l old) 
 front n l old h = rw h (take-append-seam l (drop (length l) old))
 
 -- n bytes of a body with no seek, by a run that has looked as far as it stands
+looked : (c : Cursor) (body : ℕ) → c .pos ≡ body → c .reach ≡ c .pos → (n : ℕ) → advanced c n .reach ≡ body + n
+looked c body here level n = reach-level c level n ∙ omega (arith, here)
+
 straight : (c : Cursor) (body : ℕ) → c .pos ≡ body → c .reach ≡ c .pos → (n : ℕ) → parsedOf (At (advanced c n)) ≡ Parseds.Read (body + n) (body + n)
 straight c body here level n =
-    parsed-at (advanced c n) (body + n) (body + n) (pos-advanced c n ∙ omega (arith, here)) (reach-level c level n ∙ omega (arith, here))
+    parsed-at (advanced c n) (body + n) (body + n) (pos-advanced c n ∙ omega (arith, here)) (looked c body here level n)
 
 base-level : (c : Cursor) → c .reach ≡ c .pos → advanced c 76 .reach ≡ advanced c 76 .pos
 base-level c level = reach-level c level 76 ∙ sym (pos-advanced c 76)
 
-module _ {s : List ℕ} (order : ByteOrder) (c : Cursor) (body : ℕ) (w : Whole) (t : Typed w) (g : Good (w .pane .base)) (here : c .pos ≡ body) (level : c .reach ≡ c .pos) where
+module _ {s : List ℕ} (order : ByteOrder) (c : Cursor) (body : ℕ) (x : Extent) (w : Whole) (t : Typed w) (g : Good (w .pane .base)) (here : c .pos ≡ body) (level : c .reach ≡ c .pos) where
   -- ---- pan1
 
-  pan-back : Holds s (c .pos) (encodeBody Pan1 order body w) → BodyBack order s c body Pan1 w
-  unfolding bodyRead bodyLists encodeBody readRecord SameOwn paneRead unlessRefused
-  pan-back h = record {
-    read = rw (pane-back c order (w .pane .base) (t .pane .base) g h, texts-back (w .pane .base) g (advanced c 76) body, straight c body here level 76);
+  pan-back : Kept x Pan1 body w → Holds s (c .pos) (encodeBody Pan1 order body w) → BodyBack order s c body x Pan1 w
+  unfolding bodyRead bodyLists encodeBody readRecord SameOwn paneRead paneGiven paneMeasured unlessRefused
+  pan-back kept h = record {
+    read = rw (
+      pane-back c order (w .pane .base) (t .pane .base) g h,
+      texts-back (w .pane .base) g (advanced c 76) body,
+      kept (advanced c 76) (looked c body here level 76),
+      straight c body here level 76,
+    );
     own = λ l. tt;
   }
 
   -- ---- ali1
 
-  ali-back : Holds s (c .pos) (encodeBody Ali1 order body w) → BodyBack order s c body Ali1 w
-  unfolding bodyRead bodyLists encodeBody readRecord SameOwn alignment.alignmentRead alignment.encodeBody unlessRefused
-  ali-back h =
+  ali-back : Kept x Ali1 body w → Holds s (c .pos) (encodeBody Ali1 order body w) → BodyBack order s c body x Ali1 w
+  unfolding bodyRead bodyLists encodeBody readRecord SameOwn alignment.alignmentRead alignment.alignmentGiven alignment.alignmentMeasured alignment.encodeBody unlessRefused
+  ali-back kept h =
       let b = w .pane .base in
       let a = w .pane .alignment in
       let (h₁, h₂) = split (encodePane order b) (encodeAlignment order a) 76 (length-pane order b (sound b g)) h in
@@ -156,6 +171,7 @@ module _ {s : List ℕ} (order : ByteOrder) (c : Cursor) (body : ℕ) (w : Whole
           alignment-laws.alignment-back (advanced c 76) order a (t .pane .alignment) h₃,
           texts-back b g (advanced (advanced c 76) 12) body,
           advanced-more c 76 12,
+          kept (advanced c 88) (looked c body here level 88),
           straight c body here level 88,
         );
         own = λ l. refl;
@@ -163,7 +179,7 @@ module _ {s : List ℕ} (order : ByteOrder) (c : Cursor) (body : ℕ) (w : Whole
 
   -- ---- pic1
 
-  module _ (o : OwnGood Pic1 w) (h : Holds s (c .pos) (encodeBody Pic1 order body w)) where
+  module _ (kept : Kept x Pic1 body w) (o : OwnGood Pic1 w) (h : Holds s (c .pos) (encodeBody Pic1 order body w)) where
     pic-base : Holds s (c .pos) (encodePane order (w .pane .base)) × Holds s (advanced c 76 .pos) (encodePicture order (w .pane .picture) (w .lists .quads))
     unfolding encodeBody picture.encodeBody
     pic-base =
@@ -173,40 +189,50 @@ module _ {s : List ℕ} (order : ByteOrder) (c : Cursor) (body : ℕ) (w : Whole
     pic-fit : Fit 4 (w .lists .quads)
     pic-fit = below-fit 4 (w .lists .quads) (t .quads)
 
-    pic-quads : (old : List ℕ) → picture.quadsRead order s (At c) body old ≡ over (w .lists .quads) old
-    unfolding picture.quadsRead OwnGood pictureQuads unlessRefused
-    pic-quads old =
-        let x = w .pane .picture in
+    pic-measured : _≡_ {A = PictureMeasured} (picture.pictureMeasured order s (At c) body x) (record {
+      base = readBack (w .pane .base);
+      own = pictureTaken order s (At (advanced c 76));
+      then = At (advanced c (76 + pictureLength (w .pane .picture) (w .lists .quads)));
+    })
+    unfolding picture.pictureMeasured picture.bodyLength OwnGood
+    pic-measured =
+        let a = w .pane .picture in
         let q = w .lists .quads in
-        let e = picture-laws.quads-back (advanced c 76) order x q (t .pane .picture) o pic-fit (pic-base .1) in
         rw (
           pane-back c order (w .pane .base) (t .pane .base) g (pic-base .0),
-          e,
-          picture-laws.picture-back (advanced c 76) order x q (t .pane .picture) o pic-fit (pic-base .1),
-          texts-back (w .pane .base) g (advanced (advanced c 76) (pictureLength x q)) body,
+          picture-laws.picture-back (advanced c 76) order a q (t .pane .picture) o pic-fit (pic-base .1),
+          texts-back (w .pane .base) g (advanced (advanced c 76) (pictureLength a q)) body,
+          advanced-more c 76 (pictureLength a q),
+          kept (advanced c (76 + pictureLength a q)) (looked c body here level (76 + pictureLength a q)),
         )
 
-    pic-back : BodyBack order s c body Pic1 w
-    unfolding bodyRead bodyLists readRecord SameOwn OwnGood picture.pictureRead picture.bodyLength unlessRefused picture-laws.readBackPicture
+    pic-quads : (old : List ℕ) → picture.quadsRead order s (At c) body x old ≡ over (w .lists .quads) old
+    unfolding picture.quadsRead picture.quadsFilled OwnGood pictureQuads unlessRefused
+    pic-quads old =
+        rw (
+          pic-measured,
+          picture-laws.quads-back (advanced c 76) order (w .pane .picture) (w .lists .quads) (t .pane .picture) o pic-fit (pic-base .1),
+        )
+
+    pic-back : BodyBack order s c body x Pic1 w
+    unfolding bodyRead bodyLists readRecord SameOwn OwnGood picture.pictureRead picture.pictureGiven picture.bodyLength unlessRefused picture-laws.readBackPicture
     pic-back =
-        let x = w .pane .picture in
+        let a = w .pane .picture in
         let q = w .lists .quads in
         record {
           read = rw (
-            pane-back c order (w .pane .base) (t .pane .base) g (pic-base .0),
-            picture-laws.picture-back (advanced c 76) order x q (t .pane .picture) o pic-fit (pic-base .1),
-            texts-back (w .pane .base) g (advanced (advanced c 76) (pictureLength x q)) body,
-            advanced-more c 76 (pictureLength x q),
-            straight c body here level (76 + pictureLength x q),
+            pic-measured,
+            picture-laws.picture-back (advanced c 76) order a q (t .pane .picture) o pic-fit (pic-base .1),
+            straight c body here level (76 + pictureLength a q),
           );
           own = λ l.
               let n : 8 * (length q / 8) ≡ length q = omega (arith, o .whole) in
-              rw (pic-quads (l .quads), front (8 * (length q / 8)) q (l .quads) n) (picture-laws.read-same x q);
+              rw (pic-quads (l .quads), front (8 * (length q / 8)) q (l .quads) n) (picture-laws.read-same a q);
         }
 
   -- ---- wnd1
 
-  module _ (o : OwnGood Wnd1 w) (low : 8 ≤ body) (whole : body % 4 ≡ 0) (h : Holds s (c .pos) (encodeBody Wnd1 order body w)) where
+  module _ (kept : Kept x Wnd1 body w) (o : OwnGood Wnd1 w) (low : 8 ≤ body) (whole : body % 4 ≡ 0) (h : Holds s (c .pos) (encodeBody Wnd1 order body w)) where
     wnd-base : Holds s (c .pos) (encodePane order (w .pane .base)) × Holds s (advanced c 76 .pos) (encodeWindow order body (w .pane .window) (w .lists .quads) (w .lists .frames))
     unfolding encodeBody window.encodeBody
     wnd-base =
@@ -225,49 +251,50 @@ module _ {s : List ℕ} (order : ByteOrder) (c : Cursor) (body : ℕ) (w : Whole
     abbrev wnd-end : Cursor
     wnd-end = window-laws.afterWindow (advanced c 76) body (length (w .lists .quads)) (length (w .lists .frames))
 
-    wnd-place : window.readPlace order s (At c) body ≡ At wnd-end
-    unfolding window.readPlace window.ownTaken OwnGood
-    wnd-place =
-        let x = w .pane .window in
-        let q = w .lists .quads in
-        let f = w .lists .frames in
+    wnd-reach : wnd-end .reach ≡ body + (76 + windowLength body (length (w .lists .quads)) (length (w .lists .frames)))
+    wnd-reach = window-laws.reach-window (advanced c 76) body (length (w .lists .quads)) (length (w .lists .frames)) (base-level c level) wnd-here whole ∙ omega arith
+
+    wnd-measured : _≡_ {A = WindowMeasured} (window.windowMeasured order s (At c) body x) (record {
+      base = readBack (w .pane .base);
+      own = windowTaken order s (At (advanced c 76)) body;
+      then = At wnd-end;
+    })
+    unfolding window.windowMeasured window.bodyLength OwnGood
+    wnd-measured =
         rw (
           pane-back c order (w .pane .base) (t .pane .base) g (wnd-base .0),
-          window-laws.window-back (advanced c 76) order body x q f (t .pane .window) o wnd-quads-fit wnd-frames-fit low wnd-here (wnd-base .1),
+          window-laws.window-back (advanced c 76) order body (w .pane .window) (w .lists .quads) (w .lists .frames) (t .pane .window) o wnd-quads-fit wnd-frames-fit low wnd-here (wnd-base .1),
           texts-back (w .pane .base) g wnd-end body,
+          kept wnd-end wnd-reach,
         )
 
-    wnd-quads : (old : List ℕ) → window.readQuads order s (At c) body old ≡ over (w .lists .quads) old
-    unfolding window.readQuads window.ownTaken OwnGood unlessRefused
+    wnd-quads : (old : List ℕ) → window.readQuads order s (At c) body x old ≡ over (w .lists .quads) old
+    unfolding window.readQuads window.quadsFilled OwnGood unlessRefused
     wnd-quads old =
         rw (
-          wnd-place,
-          pane-back c order (w .pane .base) (t .pane .base) g (wnd-base .0),
+          wnd-measured,
           window-laws.quads-back (advanced c 76) order body (w .pane .window) (w .lists .quads) (w .lists .frames) (t .pane .window) o wnd-quads-fit wnd-frames-fit low wnd-here (wnd-base .1),
         )
 
-    wnd-frames : (old : List ℕ) → window.readFrames order s (At c) body old ≡ over (w .lists .frames) old
-    unfolding window.readFrames window.ownTaken OwnGood unlessRefused
+    wnd-frames : (old : List ℕ) → window.readFrames order s (At c) body x old ≡ over (w .lists .frames) old
+    unfolding window.readFrames window.framesFilled OwnGood unlessRefused
     wnd-frames old =
         rw (
-          wnd-place,
-          pane-back c order (w .pane .base) (t .pane .base) g (wnd-base .0),
+          wnd-measured,
           window-laws.frames-back (advanced c 76) order body (w .pane .window) (w .lists .quads) (w .lists .frames) (t .pane .window) o wnd-quads-fit wnd-frames-fit low wnd-here (wnd-base .1),
         )
 
-    wnd-back : BodyBack order s c body Wnd1 w
-    unfolding bodyRead bodyLists readRecord SameOwn OwnGood window.windowRead window.ownTaken window.bodyLength unlessRefused window-laws.readBackWindow readBackContent
+    wnd-back : BodyBack order s c body x Wnd1 w
+    unfolding bodyRead bodyLists readRecord SameOwn OwnGood window.windowRead window.windowGiven window.bodyLength unlessRefused window-laws.readBackWindow readBackContent
     wnd-back =
-        let x = w .pane .window in
+        let a = w .pane .window in
         let q = w .lists .quads in
         let f = w .lists .frames in
         record {
           read = rw (
-            wnd-place,
-            parsed-at wnd-end (body + 104) (body + (76 + windowLength body (length q) (length f))) (pos-moved _ _)
-                (window-laws.reach-window (advanced c 76) body (length q) (length f) (base-level c level) wnd-here whole ∙ omega arith),
-            pane-back c order (w .pane .base) (t .pane .base) g (wnd-base .0),
-            window-laws.window-back (advanced c 76) order body x q f (t .pane .window) o wnd-quads-fit wnd-frames-fit low wnd-here (wnd-base .1),
+            wnd-measured,
+            parsed-at wnd-end (body + 104) (body + (76 + windowLength body (length q) (length f))) (pos-moved _ _) wnd-reach,
+            window-laws.window-back (advanced c 76) order body a q f (t .pane .window) o wnd-quads-fit wnd-frames-fit low wnd-here (wnd-base .1),
           );
           own = λ l.
               let n : 8 * (length q / 8) ≡ length q = omega (arith, o .«whole-quads») in
@@ -278,12 +305,12 @@ module _ {s : List ℕ} (order : ByteOrder) (c : Cursor) (body : ℕ) (w : Whole
                 front (8 * (length q / 8)) q (l .quads) n,
                 front (2 * (length f / 2)) f (l .frames) m,
               )
-              (window-laws.read-same x q f);
+              (window-laws.read-same a q f);
         }
 
   -- ---- txt1
 
-  module _ (o : OwnGood Txt1 w) (low : 8 ≤ body) (h : Holds s (c .pos) (encodeBody Txt1 order body w)) where
+  module _ (kept : Kept x Txt1 body w) (o : OwnGood Txt1 w) (low : 8 ≤ body) (h : Holds s (c .pos) (encodeBody Txt1 order body w)) where
     txt-base : Holds s (c .pos) (encodePane order (w .pane .base)) × Holds s (advanced c 76 .pos) (encodeTextBox order body (w .pane .«text_box») (w .lists .units) (w .lists .lines) (w .label))
     unfolding encodeBody text-box.encodeBody
     txt-base =
@@ -297,12 +324,11 @@ module _ {s : List ℕ} (order : ByteOrder) (c : Cursor) (body : ℕ) (w : Whole
     abbrev Read : TextBoxTaken
     Read = text-box-laws.readBack body (advanced c 76) (w .pane .«text_box») (w .lists .units) (w .lists .lines) (w .label)
 
-    txt-own : text-box.textBoxOwn order s (At c) body ≡ Read
-    unfolding text-box.textBoxOwn OwnGood
+    txt-own : textBoxTaken order s (At (advanced c 76)) body ≡ Read
+    unfolding OwnGood
     txt-own =
-        rw (pane-back c order (w .pane .base) (t .pane .base) g (txt-base .0))
-        (text-box-laws.text-box-back s (advanced c 76) order body txt-here low (w .pane .«text_box») (w .lists .units) (w .lists .lines) (w .label)
-        (t .pane .«text_box») o (below-at 2 _ (t .units)) (below-at 4 _ (t .lines)) (txt-base .1))
+        text-box-laws.text-box-back s (advanced c 76) order body txt-here low (w .pane .«text_box») (w .lists .units) (w .lists .lines) (w .label)
+        (t .pane .«text_box») o (below-at 2 _ (t .units)) (below-at 4 _ (t .lines)) (txt-base .1)
 
     txt-same : text-box-same.SameTextBox
         (record { box = Read .«text_box»; units = textBoxUnits order s Read; lines = textBoxLines order s Read; label = labelOf s (Read .«text_box» .label) })
@@ -318,30 +344,38 @@ module _ {s : List ℕ} (order : ByteOrder) (c : Cursor) (body : ℕ) (w : Whole
     txt-then : Read .then ≡ At txt-after
     txt-then = text-box-laws.then-back body (advanced c 76) (w .pane .«text_box») (w .lists .units) (w .lists .lines) (w .label)
 
+    txt-reach : txt-after .reach ≡ bodyReach Txt1 body w
+    txt-reach =
+        text-box-laws.reach-box body (advanced c 76) (w .pane .«text_box») (w .lists .units) (w .lists .lines) (w .label) low txt-here (base-level c level) ∙ omega arith
+
     txt-answer : parsedOf (At txt-after) ≡ Parseds.Read (bodyEnd Txt1 body w) (bodyReach Txt1 body w)
-    txt-answer =
-        parsed-at txt-after _ _ (text-box-laws.pos-box body (advanced c 76) (w .pane .«text_box») (w .lists .units) (w .lists .lines) (w .label) txt-here)
-        (text-box-laws.reach-box body (advanced c 76) (w .pane .«text_box») (w .lists .units) (w .lists .lines) (w .label) low txt-here (base-level c level) ∙ omega arith)
+    txt-answer = parsed-at txt-after _ _ (text-box-laws.pos-box body (advanced c 76) (w .pane .«text_box») (w .lists .units) (w .lists .lines) (w .label) txt-here) txt-reach
 
-    txt-end : text-box.textBoxEnd order s (At c) body ≡ At txt-after
-    unfolding text-box.textBoxEnd OwnGood
-    txt-end =
-        rw (txt-own, pane-back c order (w .pane .base) (t .pane .base) g (txt-base .0), txt-then, texts-back (w .pane .base) g txt-after body)
-        (text-box-laws.label-passes s (advanced c 76) txt-after order body txt-here low (w .pane .«text_box») (w .lists .units) (w .lists .lines) (w .label)
-        (t .pane .«text_box») o (below-at 2 _ (t .units)) (below-at 4 _ (t .lines)) (txt-base .1))
+    txt-measured : _≡_ {A = TextBoxMeasured} (text-box.textBoxMeasured order s (At c) body x) (record { base = readBack (w .pane .base); own = Read; then = At txt-after })
+    unfolding text-box.textBoxMeasured OwnGood
+    txt-measured =
+        rw (
+          pane-back c order (w .pane .base) (t .pane .base) g (txt-base .0),
+          txt-own,
+          txt-then,
+          texts-back (w .pane .base) g txt-after body,
+          text-box-laws.label-passes s (advanced c 76) txt-after order body txt-here low (w .pane .«text_box») (w .lists .units) (w .lists .lines) (w .label)
+              (t .pane .«text_box») o (below-at 2 _ (t .units)) (below-at 4 _ (t .lines)) (txt-base .1),
+          kept txt-after txt-reach,
+        )
 
-    txt-units : (old : List ℕ) → text-box.unitsAfter order s (At c) body old ≡ over (textBoxUnits order s Read) old
-    unfolding text-box.unitsAfter unlessRefused
-    txt-units old = rw (txt-end, txt-own)
+    txt-units : (old : List ℕ) → text-box.unitsAfter order s (At c) body x old ≡ over (textBoxUnits order s Read) old
+    unfolding text-box.unitsAfter text-box.unitsFilled unlessRefused
+    txt-units old = rw txt-measured
 
-    txt-lines : (old : List ℕ) → text-box.linesAfter order s (At c) body old ≡ over (textBoxLines order s Read) old
-    unfolding text-box.linesAfter unlessRefused
-    txt-lines old = rw (txt-end, txt-own)
+    txt-lines : (old : List ℕ) → text-box.linesAfter order s (At c) body x old ≡ over (textBoxLines order s Read) old
+    unfolding text-box.linesAfter text-box.linesFilled unlessRefused
+    txt-lines old = rw txt-measured
 
-    txt-back : BodyBack order s c body Txt1 w
-    unfolding bodyRead bodyLists readRecord SameOwn text-box.textBoxRead unlessRefused
+    txt-back : BodyBack order s c body x Txt1 w
+    unfolding bodyRead bodyLists readRecord SameOwn text-box.textBoxRead text-box.textBoxGiven unlessRefused
     txt-back = record {
-      read = rw (txt-end, txt-own, txt-answer, pane-back c order (w .pane .base) (t .pane .base) g (txt-base .0));
+      read = rw (txt-measured, txt-answer);
       own = λ l.
           rw (
             txt-units (l .units),
@@ -353,10 +387,10 @@ module _ {s : List ℕ} (order : ByteOrder) (c : Cursor) (body : ℕ) (w : Whole
     }
 
 -- every kind
-pub body-back : {s : List ℕ} (order : ByteOrder) (c : Cursor) (body : ℕ) (k : Kind) (w : Whole) → Typed w → Good (w .pane .base) → OwnGood k w
-    → 8 ≤ body → body % 4 ≡ 0 → c .pos ≡ body → c .reach ≡ c .pos → Holds s (c .pos) (encodeBody k order body w) → BodyBack order s c body k w
-body-back order c body Pan1 w t g o low whole here level h = pan-back order c body w t g here level h
-body-back order c body Pic1 w t g o low whole here level h = pic-back order c body w t g here level o h
-body-back order c body Txt1 w t g o low whole here level h = txt-back order c body w t g here level o low h
-body-back order c body Wnd1 w t g o low whole here level h = wnd-back order c body w t g here level o low whole h
-body-back order c body Ali1 w t g o low whole here level h = ali-back order c body w t g here level h
+pub body-back : {s : List ℕ} (order : ByteOrder) (c : Cursor) (body : ℕ) (x : Extent) (k : Kind) (w : Whole) → Kept x k body w → Typed w → Good (w .pane .base) → OwnGood k w
+    → 8 ≤ body → body % 4 ≡ 0 → c .pos ≡ body → c .reach ≡ c .pos → Holds s (c .pos) (encodeBody k order body w) → BodyBack order s c body x k w
+body-back order c body x Pan1 w e t g o low whole here level h = pan-back order c body x w t g here level e h
+body-back order c body x Pic1 w e t g o low whole here level h = pic-back order c body x w t g here level e o h
+body-back order c body x Txt1 w e t g o low whole here level h = txt-back order c body x w t g here level e o low h
+body-back order c body x Wnd1 w e t g o low whole here level h = wnd-back order c body x w t g here level e o low whole h
+body-back order c body x Ali1 w e t g o low whole here level h = ali-back order c body x w t g here level e h

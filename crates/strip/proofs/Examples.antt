@@ -7,7 +7,7 @@ use lib.ListN.{length, replicate, length-append, length-replicate}
 use Rattle.core.specs.Bytes.{le, spelled, bytesOf, part, numberAt, padding}
 use Rattle.core.specs.Refusals.{accepted, refused}
 use Rattle.core.specs.Taken.{start, advanced, stopIf, numberTaken, stringTaken, string24Taken, string8Taken, upToNul}
-use Rattle.core_checks.specs.Checks.{lengthChecked, bodyChecked, sectionChecked, bodyStart, sectionStart, listChecked, parsedOf, unlessRefused, parsedByNumber}
+use Rattle.core_checks.specs.Checks.{lengthChecked, bodyChecked, sectionChecked, bodyStart, sectionStart, listChecked, reachChecked, parsedOf, unlessRefused, parsedByNumber}
 use Rattle.core.specs.declared.cursor.ByteOrder.{ByteOrder}
 use Rattle.core.specs.declared.cursor.ByteOrder.the-variants.{Little, Big}
 use Rattle.core.proofs.Numbers.{length-bytes}
@@ -16,11 +16,11 @@ use Rattle.utf8.specs.Utf8.{walk, wellFormed}
 use Rattle.ui2d.specs.Parts.{vector2Taken, vector3Taken}
 use Rattle.pane_read.specs.Pane.{paneTaken, Sound}
 use Rattle.pane_checks.specs.Checks.{nameIll, textsChecked}
-use Rattle.pane.specs.Body.{paneRead, paneParsed}
+use Rattle.pane.specs.Body.{paneMeasured, paneGiven, paneRead, paneParsed}
 use Rattle.text_box_write.specs.Written.{textBoxLength}
 use Rattle.text_box.proofs.Examples.{OneEach, At8, text-box-at-8}
 use Rattle.alignment_fields.specs.Alignment.{alignmentTaken}
-use Rattle.alignment.specs.Body.{alignmentRead}
+use Rattle.alignment.specs.Body.{alignmentMeasured, alignmentGiven, alignmentRead}
 use Rattle.strip_records.specs.Kinds.{letterBytes, kindOf}
 use Rattle.strip_records.specs.Whole.{Whole, Lists, lists}
 use Rattle.strip_kinds.specs.Body.{bodyRead}
@@ -42,7 +42,7 @@ pub record Short : Type 0 where
   pub thirty-seven : parsedByNumber (paneParsed Little (zeros 37) 8 .answer) ≡ refused 4 37 4
 
 pub short : Short
-unfolding start advanced paneParsed paneRead parsedOf unlessRefused bodyStart lengthChecked bodyChecked stopIf textsChecked paneTaken string24Taken string8Taken vector2Taken vector3Taken numberTaken stringTaken upToNul part numberAt spelled
+unfolding start advanced paneParsed paneRead paneGiven paneMeasured reachChecked parsedOf unlessRefused bodyStart lengthChecked bodyChecked stopIf textsChecked paneTaken string24Taken string8Taken vector2Taken vector3Taken numberTaken stringTaken upToNul part numberAt spelled
 short = record { eight = refl; twelve = refl; thirteen = refl; thirty-seven = refl }
 
 -- a text box at 8, one unit, a label of two bytes, one line: offsets 168, 172, 176; body 177, size 188
@@ -95,7 +95,7 @@ pub record Lines : Type 0 where
   pub whole : sectionByNumber (readSection Little (letterBytes Ali1 ++ (96 ∷ 0 ∷ 0 ∷ 0 ∷ zeros 88)) 0 full .answer) ≡ accepted (96 ∷ 96 ∷ 96 ∷ [])
 
 pub three-lines : Lines
-unfolding start advanced letterBytes kindOf readSection readStart sectionStart lengthChecked sectionChecked listChecked stopIf orRefused readAt headerTaken sizeBad byKind readBody bodyRead alignmentRead parsedOf unlessRefused finished refusedWith endedWith paneTaken string24Taken string8Taken vector2Taken vector3Taken alignmentTaken numberTaken stringTaken upToNul part numberAt spelled textsChecked nameIll wellFormed walk
+unfolding start advanced letterBytes kindOf readSection readStart sectionStart lengthChecked sectionChecked listChecked stopIf orRefused readAt headerTaken sizeBad byKind readBody bodyRead alignmentRead alignmentGiven alignmentMeasured reachChecked parsedOf unlessRefused finished refusedWith endedWith paneTaken string24Taken string8Taken vector2Taken vector3Taken alignmentTaken numberTaken stringTaken upToNul part numberAt spelled textsChecked nameIll wellFormed walk
 three-lines = record { empty = refl; bare = refl; whole = refl }
 
 abbrev float : List ℕ
@@ -110,5 +110,5 @@ pub record Turned : Type 0 where
   pub back : bytesOf Big 4 (numberAt Big 4 float 0) ≡ float
 
 pub turned : Turned
-unfolding start advanced letterBytes kindOf readSection readStart sectionStart lengthChecked sectionChecked listChecked stopIf orRefused readAt headerTaken sizeBad byKind readBody bodyRead alignmentRead parsedOf unlessRefused finished refusedWith endedWith paneTaken string24Taken string8Taken vector2Taken vector3Taken alignmentTaken numberTaken stringTaken upToNul part numberAt spelled bytesOf le textsChecked nameIll wellFormed walk
+unfolding start advanced letterBytes kindOf readSection readStart sectionStart lengthChecked sectionChecked listChecked stopIf orRefused readAt headerTaken sizeBad byKind readBody bodyRead alignmentRead alignmentGiven alignmentMeasured reachChecked parsedOf unlessRefused finished refusedWith endedWith paneTaken string24Taken string8Taken vector2Taken vector3Taken alignmentTaken numberTaken stringTaken upToNul part numberAt spelled bytesOf le textsChecked nameIll wellFormed walk
 turned = record { bare = refl; beyond = refl; whole = refl; number = refl; back = refl }

@@ -13,6 +13,8 @@ use Rattle.core.specs.declared.cursor.Place.{Place}
 use Rattle.core.specs.declared.cursor.Place.the-variants.{At, Refused}
 use Rattle.core.proofs.Lists.{length-numbers}
 use Rattle.core_checks.specs.Checks.{parsedOf, unlessRefused}
+use Rattle.core_checks.specs.declared.checks.Extent.{Extent}
+use Rattle.core_checks.specs.declared.checks.Extent.the-variants.{Buffer, Section}
 use Rattle.core_checks.specs.declared.checks.Parsed.{Parsed}
 use Rattle.core_checks.specs.declared.checks.Parsed.the-variants as Parseds
 use Rattle.pane_read.specs.Pane.{paneTaken, blankPane}
@@ -21,7 +23,7 @@ use Rattle.pane_checks.specs.Checks.{textsChecked}
 use Rattle.pane.specs.Body.{paneRead}
 use Rattle.picture_fields.specs.Picture.{pictureTaken, quadsOf, blankPicture}
 use Rattle.picture_fields.specs.declared.PictureTaken.{PictureTaken}
-use Rattle.picture.specs.Body.{pictureStart, pictureRead, quadsRead, pictureParsed, quadsParsed}
+use Rattle.picture.specs.Body.{pictureStart, pictureMeasured, pictureGiven, quadsFilled, pictureRead, quadsRead, pictureParsed, quadsParsed}
 use Rattle.text_box_parts.specs.Parts.{unitsOf, linesOf}
 use Rattle.text_box_parts.specs.declared.Text.{Text}
 use Rattle.text_box_parts.specs.declared.Text.the-variants as text
@@ -30,11 +32,11 @@ use Rattle.text_box_parts.specs.declared.LineTable.the-variants as line
 use Rattle.text_box_parts.proofs.Pairs.{length-pairs}
 use Rattle.text_box_read.specs.TextBox.{blankTextBox, textBoxUnits, textBoxLines}
 use Rattle.text_box_read.specs.declared.TextBoxTaken.{TextBoxTaken}
-use Rattle.text_box.specs.Body.{textBoxOwn, textBoxEnd, textBoxRead, textBoxStart, unitsAfter, linesAfter}
+use Rattle.text_box.specs.Body.{textBoxMeasured, textBoxGiven, unitsFilled, linesFilled, textBoxRead, textBoxStart, unitsAfter, linesAfter}
 use Rattle.window_read.specs.Window.{frameTaken, framesTaken, windowQuads, windowFrames, blankWindow}
 use Rattle.window_read.specs.declared.read.WindowTaken.{WindowTaken}
 use Rattle.window.specs.Body as window
-use Rattle.window.specs.Body.{ownTaken, readPlace, windowRead, readQuads, readFrames, windowParsed, parsedQuads, parsedFrames}
+use Rattle.window.specs.Body.{windowMeasured, windowGiven, framesFilled, windowRead, readQuads, readFrames, windowParsed, parsedQuads, parsedFrames}
 use Rattle.alignment.specs.Body.{alignmentRead}
 use Rattle.strip_records.specs.Filled.{textNumbers, tableNumbers, Numbers, numbers, numbersOf}
 use Rattle.strip_records.specs.Kinds.{kindOf}
@@ -127,24 +129,21 @@ module _ (order : ByteOrder) (s : List ℕ) (l : Lists) where
   wnd-read (Refused why) b x body = fills-none l
 
   -- the body of a kind, read from a place of the run
-  run-fills : (k : Kind) (p : Place) (body : ℕ) → Fills (numbersOf (bodyRead order k s p body .«record»)) l (bodyLists order k s p body l)
-  unfolding bodyRead bodyLists pictureRead quadsRead textBoxRead unitsAfter linesAfter windowRead readQuads readFrames
-  run-fills Pan1 p body = fills-none l
-  run-fills Pic1 p body =
-      let b = paneTaken order s p in
-      let x = pictureTaken order s (b .then) in
-      pic-read (textsChecked (x .then) (b .pane) body) (b .pane) x
-  run-fills Txt1 p body = txt-read (textBoxEnd order s p body) (paneTaken order s p .pane) (textBoxOwn order s p body)
-  run-fills Wnd1 p body = wnd-read (readPlace order s p body) (paneTaken order s p .pane) (ownTaken order s p body) body
-  run-fills Ali1 p body = fills-none l
+  run-fills : (k : Kind) (p : Place) (body : ℕ) (x : Extent) → Fills (numbersOf (bodyRead order k s p body x .«record»)) l (bodyLists order k s p body x l)
+  unfolding bodyRead bodyLists pictureRead pictureGiven quadsRead quadsFilled textBoxRead textBoxGiven unitsAfter unitsFilled linesAfter linesFilled windowRead windowGiven readQuads window.quadsFilled readFrames framesFilled
+  run-fills Pan1 p body x = fills-none l
+  run-fills Pic1 p body x = let m = pictureMeasured order s p body x in pic-read (m .then) (m .base) (m .own)
+  run-fills Txt1 p body x = let m = textBoxMeasured order s p body x in txt-read (m .then) (m .base) (m .own)
+  run-fills Wnd1 p body x = let m = windowMeasured order s p body x in wnd-read (m .then) (m .base) (m .own) body
+  run-fills Ali1 p body x = fills-none l
 
   -- THE BODY CALL of a kind at B, with the lists l lent
   pub parsed-fills : (k : Kind) (body : ℕ) → Fills (numbersOf (bodyParsed order k s body l .«record»)) l (listsParsed order k s body l)
   unfolding bodyParsed listsParsed bodyRead bodyLists pictureParsed quadsParsed windowParsed parsedQuads parsedFrames
   parsed-fills Pan1 body = fills-none l
-  parsed-fills Pic1 body = run-fills Pic1 (pictureStart (length s) body (length (l .quads))) body
-  parsed-fills Txt1 body = run-fills Txt1 (textBoxStart (length s) (length (l .units)) (length (l .lines)) body) body
-  parsed-fills Wnd1 body = run-fills Wnd1 (window.readStart (length s) body (l .quads) (l .frames)) body
+  parsed-fills Pic1 body = run-fills Pic1 (pictureStart (length s) body (length (l .quads))) body Buffer
+  parsed-fills Txt1 body = run-fills Txt1 (textBoxStart (length s) (length (l .units)) (length (l .lines)) body) body Buffer
+  parsed-fills Wnd1 body = run-fills Wnd1 (window.readStart (length s) body (l .quads) (l .frames)) body Buffer
   parsed-fills Ali1 body = fills-none l
 
 -- ---- the same with what a section read hands out of the record that was read
@@ -180,16 +179,13 @@ module _ (order : ByteOrder) (s : List ℕ) (next : ℕ) (l : Lists) where
   wnd-by (Refused why) b x body = fills-none l
 
   -- the body of a kind
-  body-fills : (k : Kind) (p : Place) (body : ℕ) → Fills (numbersOf (readBody order k s p body next .«record»)) l (bodyLists order k s p body l)
-  unfolding readBody bodyRead bodyLists pictureRead quadsRead textBoxRead unitsAfter linesAfter windowRead readQuads readFrames
-  body-fills Pan1 p body = plain (paneRead order s p body .answer) next (pan1 (paneRead order s p body .pane)) l refl
-  body-fills Pic1 p body =
-      let b = paneTaken order s p in
-      let x = pictureTaken order s (b .then) in
-      pic-by (textsChecked (x .then) (b .pane) body) (b .pane) x
-  body-fills Txt1 p body = txt-by (textBoxEnd order s p body) (paneTaken order s p .pane) (textBoxOwn order s p body)
-  body-fills Wnd1 p body = wnd-by (readPlace order s p body) (paneTaken order s p .pane) (ownTaken order s p body) body
-  body-fills Ali1 p body = plain (alignmentRead order s p body .answer) next (ali1 (alignmentRead order s p body .base) (alignmentRead order s p body .alignment)) l refl
+  body-fills : (k : Kind) (p : Place) (body : ℕ) → Fills (numbersOf (readBody order k s p body next .«record»)) l (bodyLists order k s p body (Section next) l)
+  unfolding readBody bodyRead bodyLists pictureRead pictureGiven quadsRead quadsFilled textBoxRead textBoxGiven unitsAfter unitsFilled linesAfter linesFilled windowRead windowGiven readQuads window.quadsFilled readFrames framesFilled
+  body-fills Pan1 p body = let r = paneRead order s p body (Section next) in plain (r .answer) next (pan1 (r .pane)) l refl
+  body-fills Pic1 p body = let m = pictureMeasured order s p body (Section next) in pic-by (m .then) (m .base) (m .own)
+  body-fills Txt1 p body = let m = textBoxMeasured order s p body (Section next) in txt-by (m .then) (m .base) (m .own)
+  body-fills Wnd1 p body = let m = windowMeasured order s p body (Section next) in wnd-by (m .then) (m .base) (m .own) body
+  body-fills Ali1 p body = let r = alignmentRead order s p body (Section next) in plain (r .answer) next (ali1 (r .base) (r .alignment)) l refl
 
 -- ---- a section
 
@@ -200,7 +196,7 @@ unless-fills (At c) r l after h = h
 unless-fills (Refused why) r l after h = fills-none l
 
 module _ (order : ByteOrder) (s : List ℕ) (l : Lists) where
-  kind-fills : (k : KindFound) (p : Place) (body next : ℕ) → Fills (numbersOf (byKind order k s p body next .«record»)) l (listsByKind order k s p body l)
+  kind-fills : (k : KindFound) (p : Place) (body next : ℕ) → Fills (numbersOf (byKind order k s p body next .«record»)) l (listsByKind order k s p body next l)
   unfolding byKind listsByKind passedWith blankRecord
   kind-fills (Is k) p body next = body-fills order s next l k p body
   kind-fills Other p body next = fills-none l

@@ -1,13 +1,19 @@
-// The body of a pane of any kind, read.
+// The body of a pane of any kind: measured, which lends no list, or read into the lists that it takes.
+use alignment::body::AlignmentParsed;
 use core::cursor::ByteOrder;
 use core::cursor::Place;
+use core_checks::checks::Extent;
 use core_checks::checks::Parsed;
+use pane::body::PaneParsed;
+use picture::body::PictureParsed;
 use strip_records::kind::Kind;
 use strip_records::record::Record;
+use text_box::body::TextBoxParsed;
+use window::body::WindowParsed;
 ghost use mathlib.Core.Path.{_≡_};
 ghost use Prim.Native.Nat.{_^_, _≤_, _<_};
 ghost use lib.ListN.{length};
-ghost use Rattle.strip_records.specs.Whole.{lists, Full};
+ghost use Rattle.strip_records.specs.Whole.{lists, Full, pan1, pic1, txt1, wnd1, ali1};
 ghost use Rattle.strip_kinds.specs.Body.{bodyRead, bodyLists};
 ghost use Rattle.picture.specs.Body.{quadsRead};
 ghost use Rattle.text_box.specs.Body.{unitsAfter, linesAfter};
@@ -18,11 +24,11 @@ pub struct BodyRead {
     pub record: Record,
 }
 
-fn read_pan1(order: ByteOrder, data: &[u8], p: Place, body: usize) -> BodyRead
-    requires { ⌜ body < 2 ^ 32 ⌝ }
-    ensures { λ r. ⌜ r ≡ bodyRead order Kind.Pan1 (now («data» .entry)) p body ⌝ }
+// ---- what a body read of a kind gives, as a record
+
+fn pan1_read(read: PaneParsed) -> BodyRead
+    ensures { λ r. ⌜ (r .answer ≡ read .answer) × (r .«record» ≡ pan1 (read .pane)) ⌝ }
 {
-    let read = pane::body::read(order, data, p, body);
     let answer = read.answer;
     let base = read.pane;
     BodyRead {
@@ -38,12 +44,9 @@ fn read_pan1(order: ByteOrder, data: &[u8], p: Place, body: usize) -> BodyRead
     }
 }
 
-fn read_pic1(order: ByteOrder, data: &[u8], p: Place, body: usize, quads: &mut [u32]) -> BodyRead
-    requires { ⌜ (body < 2 ^ 32) × (2040 ≤ length (now quads)) ⌝ }
-    ensures { λ r. ⌜ r ≡ bodyRead order Kind.Pic1 (now («data» .entry)) p body ⌝ }
-    ensures { λ _. ⌜ now (quads .exit) ≡ quadsRead order (now («data» .entry)) p body (now (quads .entry)) ⌝ }
+fn pic1_read(read: PictureParsed) -> BodyRead
+    ensures { λ r. ⌜ (r .answer ≡ read .answer) × (r .«record» ≡ pic1 (read .base) (read .picture)) ⌝ }
 {
-    let read = picture::body::read(order, data, p, body, quads);
     let answer = read.answer;
     let base = read.base;
     let picture = read.picture;
@@ -60,20 +63,9 @@ fn read_pic1(order: ByteOrder, data: &[u8], p: Place, body: usize, quads: &mut [
     }
 }
 
-fn read_txt1(
-    order: ByteOrder,
-    data: &[u8],
-    p: Place,
-    body: usize,
-    units: &mut [u16],
-    lines: &mut [u32],
-) -> BodyRead
-    requires { ⌜ (8 ≤ body) × (body < 2 ^ 32) × (32767 ≤ length (now units)) × (510 ≤ length (now lines)) ⌝ }
-    ensures { λ r. ⌜ r ≡ bodyRead order Kind.Txt1 (now («data» .entry)) p body ⌝ }
-    ensures { λ _. ⌜ now (units .exit) ≡ unitsAfter order (now («data» .entry)) p body (now (units .entry)) ⌝ }
-    ensures { λ _. ⌜ now (lines .exit) ≡ linesAfter order (now («data» .entry)) p body (now (lines .entry)) ⌝ }
+fn txt1_read(read: TextBoxParsed) -> BodyRead
+    ensures { λ r. ⌜ (r .answer ≡ read .answer) × (r .«record» ≡ txt1 (read .base) (read .«text_box»)) ⌝ }
 {
-    let read = text_box::body::read(order, data, p, body, units, lines);
     let answer = read.answer;
     let base = read.base;
     let text_box = read.text_box;
@@ -90,20 +82,9 @@ fn read_txt1(
     }
 }
 
-fn read_wnd1(
-    order: ByteOrder,
-    data: &[u8],
-    p: Place,
-    body: usize,
-    quads: &mut [u32],
-    frames: &mut [u16],
-) -> BodyRead
-    requires { ⌜ (8 ≤ body) × (body < 2 ^ 32) × (2040 ≤ length (now quads)) × (510 ≤ length (now frames)) ⌝ }
-    ensures { λ r. ⌜ r ≡ bodyRead order Kind.Wnd1 (now («data» .entry)) p body ⌝ }
-    ensures { λ _. ⌜ now (quads .exit) ≡ readQuads order (now («data» .entry)) p body (now (quads .entry)) ⌝ }
-    ensures { λ _. ⌜ now (frames .exit) ≡ readFrames order (now («data» .entry)) p body (now (frames .entry)) ⌝ }
+fn wnd1_read(read: WindowParsed) -> BodyRead
+    ensures { λ r. ⌜ (r .answer ≡ read .answer) × (r .«record» ≡ wnd1 (read .base) (read .window)) ⌝ }
 {
-    let read = window::body::read(order, data, p, body, quads, frames);
     let answer = read.answer;
     let base = read.base;
     let window = read.window;
@@ -120,11 +101,9 @@ fn read_wnd1(
     }
 }
 
-fn read_ali1(order: ByteOrder, data: &[u8], p: Place, body: usize) -> BodyRead
-    requires { ⌜ body < 2 ^ 32 ⌝ }
-    ensures { λ r. ⌜ r ≡ bodyRead order Kind.Ali1 (now («data» .entry)) p body ⌝ }
+fn ali1_read(read: AlignmentParsed) -> BodyRead
+    ensures { λ r. ⌜ (r .answer ≡ read .answer) × (r .«record» ≡ ali1 (read .base) (read .alignment)) ⌝ }
 {
-    let read = alignment::body::read(order, data, p, body);
     let answer = read.answer;
     let base = read.base;
     let alignment = read.alignment;
@@ -141,27 +120,117 @@ fn read_ali1(order: ByteOrder, data: &[u8], p: Place, body: usize) -> BodyRead
     }
 }
 
-// The body of a kind.
+// ---- read into the lists that it takes
+
+fn read_pic1(
+    order: ByteOrder,
+    data: &[u8],
+    p: Place,
+    body: usize,
+    extent: Extent,
+    quads: &mut [u32],
+) -> BodyRead
+    requires { ⌜ (body < 2 ^ 32) × (2040 ≤ length (now quads)) ⌝ }
+    ensures { λ r. ⌜ r ≡ bodyRead order Kind.Pic1 (now («data» .entry)) p body extent ⌝ }
+    ensures { λ _. ⌜ now (quads .exit) ≡ quadsRead order (now («data» .entry)) p body extent (now (quads .entry)) ⌝ }
+{
+    pic1_read(picture::body::read(order, data, p, body, extent, quads))
+}
+
+fn read_txt1(
+    order: ByteOrder,
+    data: &[u8],
+    p: Place,
+    body: usize,
+    extent: Extent,
+    units: &mut [u16],
+    lines: &mut [u32],
+) -> BodyRead
+    requires { ⌜ (8 ≤ body) × (body < 2 ^ 32) × (32767 ≤ length (now units)) × (510 ≤ length (now lines)) ⌝ }
+    ensures { λ r. ⌜ r ≡ bodyRead order Kind.Txt1 (now («data» .entry)) p body extent ⌝ }
+    ensures { λ _. ⌜ now (units .exit) ≡ unitsAfter order (now («data» .entry)) p body extent (now (units .entry)) ⌝ }
+    ensures { λ _. ⌜ now (lines .exit) ≡ linesAfter order (now («data» .entry)) p body extent (now (lines .entry)) ⌝ }
+{
+    txt1_read(text_box::body::read(order, data, p, body, extent, units, lines))
+}
+
+fn read_wnd1(
+    order: ByteOrder,
+    data: &[u8],
+    p: Place,
+    body: usize,
+    extent: Extent,
+    quads: &mut [u32],
+    frames: &mut [u16],
+) -> BodyRead
+    requires { ⌜ (8 ≤ body) × (body < 2 ^ 32) × (2040 ≤ length (now quads)) × (510 ≤ length (now frames)) ⌝ }
+    ensures { λ r. ⌜ r ≡ bodyRead order Kind.Wnd1 (now («data» .entry)) p body extent ⌝ }
+    ensures { λ _. ⌜ now (quads .exit) ≡ readQuads order (now («data» .entry)) p body extent (now (quads .entry)) ⌝ }
+    ensures { λ _. ⌜ now (frames .exit) ≡ readFrames order (now («data» .entry)) p body extent (now (frames .entry)) ⌝ }
+{
+    wnd1_read(window::body::read(order, data, p, body, extent, quads, frames))
+}
+
+// ---- by the kind
+
+// The body of a kind, with no list lent.
+pub fn measure_kind(
+    order: ByteOrder,
+    kind: Kind,
+    data: &[u8],
+    p: Place,
+    body: usize,
+    extent: Extent,
+) -> BodyRead
+    requires { ⌜ (8 ≤ body) × (body < 2 ^ 32) ⌝ }
+    ensures { λ r. ⌜ r ≡ bodyRead order kind (now («data» .entry)) p body extent ⌝ }
+{
+    match kind {
+        Kind::Pan1 => {
+            let m = pane::body::measure(order, data, p, body, extent);
+            pan1_read(pane::body::given(m))
+        }
+        Kind::Pic1 => {
+            let m = picture::body::measure(order, data, p, body, extent);
+            pic1_read(picture::body::given(m))
+        }
+        Kind::Txt1 => {
+            let m = text_box::body::measure(order, data, p, body, extent);
+            txt1_read(text_box::body::given(m))
+        }
+        Kind::Wnd1 => {
+            let m = window::body::measure(order, data, p, body, extent);
+            wnd1_read(window::body::given(m))
+        }
+        Kind::Ali1 => {
+            let m = alignment::body::measure(order, data, p, body, extent);
+            ali1_read(alignment::body::given(m))
+        }
+    }
+}
+
+// The body of a kind, and its numbers into the lists that it takes.
 pub fn read_kind(
     order: ByteOrder,
     kind: Kind,
     data: &[u8],
     p: Place,
     body: usize,
+    extent: Extent,
     quads: &mut [u32],
     units: &mut [u16],
     lines: &mut [u32],
     frames: &mut [u16],
 ) -> BodyRead
     requires { ⌜ (8 ≤ body) × (body < 2 ^ 32) × Full (lists (now quads) (now units) (now lines) (now frames)) ⌝ }
-    ensures { λ r. ⌜ r ≡ bodyRead order kind (now («data» .entry)) p body ⌝ }
-    ensures { λ _. ⌜ lists (now (quads .exit)) (now (units .exit)) (now (lines .exit)) (now (frames .exit)) ≡ bodyLists order kind (now («data» .entry)) p body (lists (now (quads .entry)) (now (units .entry)) (now (lines .entry)) (now (frames .entry))) ⌝ }
+    ensures { λ r. ⌜ r ≡ bodyRead order kind (now («data» .entry)) p body extent ⌝ }
+    ensures { λ _. ⌜ lists (now (quads .exit)) (now (units .exit)) (now (lines .exit)) (now (frames .exit)) ≡ bodyLists order kind (now («data» .entry)) p body extent (lists (now (quads .entry)) (now (units .entry)) (now (lines .entry)) (now (frames .entry))) ⌝ }
 {
     match kind {
-        Kind::Pan1 => read_pan1(order, data, p, body),
-        Kind::Pic1 => read_pic1(order, data, p, body, quads),
-        Kind::Txt1 => read_txt1(order, data, p, body, units, lines),
-        Kind::Wnd1 => read_wnd1(order, data, p, body, quads, frames),
-        Kind::Ali1 => read_ali1(order, data, p, body),
+        Kind::Pan1 => measure_kind(order, Kind::Pan1, data, p, body, extent),
+        Kind::Pic1 => read_pic1(order, data, p, body, extent, quads),
+        Kind::Txt1 => read_txt1(order, data, p, body, extent, units, lines),
+        Kind::Wnd1 => read_wnd1(order, data, p, body, extent, quads, frames),
+        Kind::Ali1 => measure_kind(order, Kind::Ali1, data, p, body, extent),
     }
 }

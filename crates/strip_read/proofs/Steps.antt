@@ -5,7 +5,9 @@ use mathlib.Core.List.{List}
 use lib.ListN.{length}
 use borrow.Author.Tests.{eq-eqb, ne-eqb}
 use Rattle.core.specs.Taken.{start, numberTaken}
-use Rattle.core_checks.specs.Checks.{unlessRefused}
+use Rattle.core_checks.specs.Checks.{sectionStart, unlessRefused}
+use Rattle.core_checks.specs.declared.checks.Extent.the-variants.{Section}
+use Rattle.core_checks.proofs.Checked.{list-enough}
 use Rattle.core.specs.declared.error.Refusal.{Refusal}
 use Rattle.core.specs.declared.cursor.ByteOrder.{ByteOrder}
 use Rattle.core.specs.declared.cursor.ByteOrder.the-variants.{Little}
@@ -14,9 +16,9 @@ use Rattle.core.specs.declared.cursor.Place.{Place}
 use Rattle.core.specs.declared.cursor.Place.the-variants.{At, Refused}
 use Rattle.core.proofs.Runs.{cleared}
 use Rattle.strip_records.specs.Kinds.{kindOf}
-use Rattle.strip_records.specs.Whole.{Lists}
+use Rattle.strip_records.specs.Whole.{Lists, noLists, Full}
 use Rattle.strip_kinds.specs.Body.{bodyRead, bodyLists}
-use Rattle.strip_read.specs.Read.{finished, readBody, byKind, listsByKind, orRefused, refusedWith, endedWith, passedWith, readAt, listsAt, readSection, listsAfter}
+use Rattle.strip_read.specs.Read.{finished, readBody, byKind, listsByKind, orRefused, refusedWith, endedWith, passedWith, readAt, listsAt, readSection, measured, listsAfter}
 use Rattle.strip_header.specs.Header.{readStart, sizeBad, headerTaken, sectionByNumber}
 use Rattle.strip_records.specs.declared.kind.Kind.{Kind}
 use Rattle.strip_records.specs.declared.kind.KindFound.the-variants.{Is, Other}
@@ -45,10 +47,15 @@ module _ (order : ByteOrder) (s : List ℕ) where
         rw y (size-ok (length s) p (z .value) (f .1) k)
 
     pub header-kind : (c : Cursor) → h .then ≡ At c → (kind : Kind) → Is kind ≡ kindOf (h .letters) → (l m : Lists) (b : BodyRead)
-        → b ≡ bodyRead order kind s (At c) (p + 8) → m ≡ bodyLists order kind s (At c) (p + 8) l
+        → b ≡ bodyRead order kind s (At c) (p + 8) (Section (p + h .size)) → m ≡ bodyLists order kind s (At c) (p + 8) (Section (p + h .size)) l
         → (finished (b .answer) (p + h .size) (b .«record») ≡ readAt order s p) × (m ≡ listsAt order s p l)
     unfolding readAt listsAt orRefused unlessRefused byKind listsByKind readBody
     header-kind c g kind k l m b x y = rw (← e, g, ← k, x, y) (refl, refl)
+
+    -- with no list lent
+    pub header-measured : (c : Cursor) → h .then ≡ At c → (kind : Kind) → Is kind ≡ kindOf (h .letters) → (b : BodyRead)
+        → b ≡ bodyRead order kind s (At c) (p + 8) (Section (p + h .size)) → finished (b .answer) (p + h .size) (b .«record») ≡ readAt order s p
+    header-measured c g kind k b x = header-kind c g kind k noLists _ b x refl .0
 
     pub header-other : (c : Cursor) → h .then ≡ At c → Other ≡ kindOf (h .letters) → (l : Lists) → (passedWith (p + h .size) ≡ readAt order s p) × (l ≡ listsAt order s p l)
     unfolding readAt listsAt orRefused unlessRefused byKind listsByKind
@@ -67,3 +74,32 @@ module _ (order : ByteOrder) (s : List ℕ) where
     pub read-on : (c : Cursor) → q ≡ At c → (p ≡ length s → ⊥) → (readAt order s p ≡ readSection order s p l) × (listsAt order s p l ≡ listsAfter order s p l)
     unfolding readSection listsAfter orRefused unlessRefused
     read-on c g h = rw (← e, g, ne-eqb _ _ h) (refl, refl)
+
+  -- THE SECTION MEASURED
+
+  module _ (p : ℕ) (q : Place) (e : q ≡ sectionStart (length s) p) where
+    pub measured-refused : (why : Refusal) → q ≡ Refused why → refusedWith why ≡ measured order s p
+    unfolding measured orRefused
+    measured-refused why g = rw (← e, g)
+
+    pub measured-end : (c : Cursor) → q ≡ At c → p ≡ length s → endedWith ≡ measured order s p
+    unfolding measured orRefused
+    measured-end c g h = rw (← e, g, eq-eqb _ _ h)
+
+    pub measured-goes : (c : Cursor) → q ≡ At c → (p ≡ length s → ⊥) → readAt order s p ≡ measured order s p
+    unfolding measured orRefused
+    measured-goes c g h = rw (← e, g, ne-eqb _ _ h)
+
+  -- is what a section read with any full lists gives
+  pub measured-full : (p : ℕ) (l : Lists) → Full l → readSection order s p l ≡ measured order s p
+  unfolding readSection measured readStart
+  measured-full p l f =
+      rw (
+        list-enough _ 4 510 _ (f .frames),
+        list-enough _ 3 510 _ (f .lines),
+        list-enough _ 2 32767 _ (f .units),
+        list-enough (sectionStart (length s) p) 1 2040 _ (f .quads),
+      )
+
+pub measured-numbered : {r w : SectionRead} → r ≡ w → (r ≡ w) × (sectionByNumber (r .answer) ≡ sectionByNumber (w .answer))
+measured-numbered e = (e, ap (λ (x : SectionRead). sectionByNumber (x .answer)) e)

@@ -4,11 +4,12 @@ use mathlib.Core.Bool.{cond}
 use mathlib.Core.List.{List}
 use lib.ListN.{length}
 use lib.Dec.{eqb}
-use Rattle.core_checks.specs.Checks.{unlessRefused}
+use Rattle.core_checks.specs.Checks.{sectionStart, unlessRefused}
 use Rattle.core.specs.declared.error.Refusal.{Refusal}
 use Rattle.core.specs.declared.cursor.ByteOrder.{ByteOrder}
 use Rattle.core.specs.declared.cursor.Place.{Place}
 use Rattle.core.specs.declared.cursor.Place.the-variants as Places
+use Rattle.core_checks.specs.declared.checks.Extent.the-variants.{Section}
 use Rattle.core_checks.specs.declared.checks.Parsed.{Parsed}
 use Rattle.core_checks.specs.declared.checks.Parsed.the-variants as Parseds
 use Rattle.strip_records.specs.Kinds.{kindOf}
@@ -40,9 +41,10 @@ unfoldable pub finished : Parsed → ℕ → Record → SectionRead
 finished (Parseds.Read end reach) next r = record { answer = Sections.Pane end next reach; «record» = r }
 finished (Parseds.Refused why) next r = refusedWith why
 
+-- a body that is read in its section, which ends where the next begins
 unfoldable pub readBody : ByteOrder → Kind → List ℕ → Place → ℕ → ℕ → SectionRead
 readBody order kind s p body next =
-    let b : BodyRead = bodyRead order kind s p body in
+    let b : BodyRead = bodyRead order kind s p body (Section next) in
     finished (b .answer) next (b .«record»)
 
 -- other letters are passed
@@ -50,9 +52,9 @@ unfoldable pub byKind : ByteOrder → KindFound → List ℕ → Place → ℕ �
 byKind order (Is kind) s p body next = readBody order kind s p body next
 byKind order Other s p body next = passedWith next
 
-unfoldable pub listsByKind : ByteOrder → KindFound → List ℕ → Place → ℕ → Lists → Lists
-listsByKind order (Is kind) s p body l = bodyLists order kind s p body l
-listsByKind order Other s p body l = l
+unfoldable pub listsByKind : ByteOrder → KindFound → List ℕ → Place → ℕ → ℕ → Lists → Lists
+listsByKind order (Is kind) s p body next l = bodyLists order kind s p body (Section next) l
+listsByKind order Other s p body next l = l
 
 -- r where no check has refused
 unfoldable pub orRefused : Place → SectionRead → SectionRead
@@ -72,11 +74,15 @@ readSection order s p l =
     (readStart (length s) p (length (l .quads)) (length (l .units)) (length (l .lines)) (length (l .frames)))
     (cond (eqb p (length s)) endedWith (readAt order s p))
 
--- the lists after it: changed only by the body of a pane that is read
+-- THE SECTION AT p OF s MEASURED, with no list lent: 1, 2, the end at the length, and then so
+unfoldable pub measured : ByteOrder → List ℕ → ℕ → SectionRead
+measured order s p = orRefused (sectionStart (length s) p) (cond (eqb p (length s)) endedWith (readAt order s p))
+
+-- the lists after a section read: changed only by the body of a pane that is read
 unfoldable pub listsAt : ByteOrder → List ℕ → ℕ → Lists → Lists
 listsAt order s p l =
     let h : Header = headerTaken order s p in
-    unlessRefused (h .then) l (listsByKind order (kindOf (h .letters)) s (h .then) (p + 8) l)
+    unlessRefused (h .then) l (listsByKind order (kindOf (h .letters)) s (h .then) (p + 8) (p + h .size) l)
 
 unfoldable pub listsAfter : ByteOrder → List ℕ → ℕ → Lists → Lists
 listsAfter order s p l =

@@ -1,2 +1,3 @@
-// The section read.
+// The section read: with lists lent, or measured, with none.
+pub mod measure;
 pub mod read;

@@ -1,7 +1,8 @@
-// The section read.
+// The section read, with lists lent.
 use core::cursor::ByteOrder;
 use core::cursor::Place;
 use core::error::Refusal;
+use core_checks::checks::Extent;
 use core_checks::checks::Parsed;
 pub use strip_header::Section;
 use strip_kinds::body::BodyRead;
@@ -22,7 +23,7 @@ pub struct SectionRead {
     pub record: Record,
 }
 
-fn refused(why: Refusal) -> SectionRead
+pub(crate) fn refused(why: Refusal) -> SectionRead
     ensures { λ r. ⌜ r ≡ refusedWith why ⌝ }
 {
     SectionRead {
@@ -31,7 +32,7 @@ fn refused(why: Refusal) -> SectionRead
     }
 }
 
-fn ended() -> SectionRead
+pub(crate) fn ended() -> SectionRead
     ensures { λ r. ⌜ r ≡ endedWith ⌝ }
 {
     SectionRead {
@@ -40,7 +41,7 @@ fn ended() -> SectionRead
     }
 }
 
-fn passed(next: usize) -> SectionRead
+pub(crate) fn passed(next: usize) -> SectionRead
     ensures { λ r. ⌜ r ≡ passedWith next ⌝ }
 {
     SectionRead {
@@ -50,7 +51,7 @@ fn passed(next: usize) -> SectionRead
 }
 
 // A body that was read, as a section.
-fn finish(read: BodyRead, next: usize) -> SectionRead
+pub(crate) fn finish(read: BodyRead, next: usize) -> SectionRead
     ensures { λ r. ⌜ r ≡ finished (read .answer) next (read .«record») ⌝ }
 {
     let answer = read.answer;
@@ -91,12 +92,14 @@ fn read_at(
             match found {
                 KindFound::Is(kind) => {
                     let body = place + 8;
+                    let extent = Extent::Section { end: next };
                     let read = read_kind(
                         order,
                         kind,
                         data,
                         Place::At(c),
                         body,
+                        extent,
                         quads,
                         units,
                         lines,
@@ -110,7 +113,7 @@ fn read_at(
     }
 }
 
-// The section at a place: checks 1, 2, 3, the end, the header, check 8, the body, check 7. Lists change only where a pane is read.
+// The section at a place: checks 1, 2, 3, the end, the header, check 8, the body, checks 7 and 19. Lists change only where a pane is read.
 pub fn read_section(
     order: ByteOrder,
     data: &[u8],

@@ -1,19 +1,21 @@
 -- The body calls as the code makes them, and what lets a body write through.
-use mathlib.Core.Path.{_≡_, refl, sym, ap, _∙_}
+use mathlib.Core.Path.{_≡_, refl, sym, ap, subst, _∙_}
 use Prim.Native.Nat.{ℕ, _+_, _^_, _≤_, _<_}
 use native.Mathlib.Omega.{arith}
 use mathlib.Core.List.{List}
 use Rattle.pane_checks.proofs.Cleared.{texts-cleared}
 use Rattle.core.specs.Taken.{start, stopIf, over}
-use Rattle.core_checks.specs.Checks.{lengthChecked, bodyChecked, bodyStart, listChecked, parsedOf, unlessRefused}
+use Rattle.core_checks.specs.Checks.{lengthChecked, bodyChecked, bodyStart, listChecked, reachChecked, parsedOf, unlessRefused}
 use Rattle.core.specs.declared.error.Refusal.{Refusal}
 use Rattle.core.specs.declared.cursor.ByteOrder.{ByteOrder}
 use Rattle.core.specs.declared.cursor.Cursor.{Cursor}
 use Rattle.core.specs.declared.cursor.Place.{Place}
 use Rattle.core.specs.declared.cursor.Place.the-variants.{At, Refused}
+use Rattle.core_checks.specs.declared.checks.Extent.{Extent}
+use Rattle.core_checks.specs.declared.checks.Extent.the-variants.{Buffer}
 use Rattle.core_checks.specs.declared.checks.Parsed.{Parsed}
 use Rattle.core.proofs.Runs.{cleared}
-use Rattle.core_checks.proofs.Checked.{BodyOk, body-started, length-cleared, body-cleared, list-cleared, end-cleared}
+use Rattle.core_checks.proofs.Checked.{BodyOk, body-started, length-cleared, body-cleared, list-cleared, end-cleared, reach-cleared, reach-stays}
 use Rattle.pane_read.specs.Pane.{paneTaken}
 use Rattle.pane_checks.specs.Checks.{textsChecked, namesChecked, reserveChecked}
 use Rattle.pane_read.specs.declared.Pane.{Pane}
@@ -25,13 +27,14 @@ use Rattle.text_box_parts.specs.declared.Label.{Label}
 use Rattle.text_box_parts.specs.declared.Label.the-variants as label
 use Rattle.text_box_read.specs.declared.TextBoxPane.{TextBoxPane}
 use Rattle.text_box_read.specs.declared.TextBoxTaken.{TextBoxTaken}
+use Rattle.text_box.specs.declared.body.TextBoxMeasured.{TextBoxMeasured}
 use Rattle.text_box.specs.declared.body.TextBoxParsed.{TextBoxParsed}
 use Rattle.text_box_parts.specs.Parts.{labelPart}
 use Rattle.text_box_read.specs.TextBox.{textBoxUnits, textBoxLines, Standing}
 use Rattle.text_box_read.specs.TextBox.{textBoxTaken}
 use Rattle.text_box_write.specs.Written.{Small, textBoxLength}
 use Rattle.text_box_checks.specs.Checks.{labelChecked, labelLengthChecked, labelNameChecked, textBoxChecked}
-use Rattle.text_box.specs.Body.{Blank, textBoxOwn, textBoxEnd, textBoxRead, unitsAfter, linesAfter, Reads, textBoxStart, textBoxWriteChecked}
+use Rattle.text_box.specs.Body.{Blank, textBoxMeasured, textBoxGiven, unitsFilled, linesFilled, textBoxRead, unitsAfter, linesAfter, Reads, textBoxStart, textBoxWriteChecked}
 use Rattle.text_box_read.proofs.Came.{text-box-stays}
 use Rattle.text_box_read.proofs.Came.{text-box-came}
 use Rattle.text_box.proofs.Cleared.{GoodTextBox, label-length-cleared, label-name-cleared, text-box-early, text-box-cleared, small}
@@ -50,45 +53,51 @@ label-stays why s (label.At place long) = refl
 
 -- ---- the read
 
--- a read of a run that was refused
-pub end-refused : (order : ByteOrder) (s : List ℕ) (why : Refusal) (body : ℕ) → textBoxEnd order s (Refused why) body ≡ Refused why
-unfolding textBoxEnd textBoxOwn
-end-refused order s why body =
+-- a run that was refused stays so
+pub measured-stays : (order : ByteOrder) (s : List ℕ) (why : Refusal) (body : ℕ) (x : Extent) → textBoxMeasured order s (Refused why) body x .then ≡ Refused why
+unfolding textBoxMeasured
+measured-stays order s why body x =
     rw (
       pane-stays order s why,
       text-box-stays order s why body,
       texts-stay why (paneTaken order s (Refused why) .pane) body,
       label-stays why s (textBoxTaken order s (Refused why) body .«text_box» .label),
+      reach-stays why x,
     )
 
-pub refused-at : (order : ByteOrder) (s : List ℕ) (p : Place) (body : ℕ) (why : Refusal) → textBoxEnd order s p body ≡ Refused why
-    → (r : TextBoxParsed) → Blank why r → (u l : List ℕ) → Reads order s p body u l r u l
-unfolding textBoxRead unitsAfter linesAfter parsedOf unlessRefused
-refused-at order s p body why e r k u l = rw (e, ← k .answer, ← k .base, ← k .own) (refl, refl, refl)
+-- where nothing was refused the lists may be filled
+pub measured-ready : (order : ByteOrder) (s : List ℕ) (p : Place) (body : ℕ) (x : Extent) (m : TextBoxMeasured) → m ≡ textBoxMeasured order s p body x
+    → (c : Cursor) → m .then ≡ At c → Standing s (m .own)
+unfolding textBoxMeasured
+measured-ready order s p body x m e c h =
+    let b = paneTaken order s p in
+    let t = textBoxTaken order s (b .then) body in
+    let q = textsChecked (t .then) (b .pane) body in
+    let k = reach-cleared (labelChecked q s (t .«text_box» .label)) x c (ap (λ (z : TextBoxMeasured). z .then) (sym e) ∙ h) in
+    let l = texts-cleared (t .then) (b .pane) body c (label-cleared q s (t .«text_box» .label) c k) in
+    subst (λ (z : TextBoxMeasured). Standing s (z .own)) (sym e) (text-box-came order s (b .then) body c l)
 
-module _ (order : ByteOrder) (s : List ℕ) (p : Place) (body : ℕ) (b : PaneTaken) (t : TextBoxTaken) (q then : Place)
-    (e : b ≡ paneTaken order s p) (f : t ≡ textBoxTaken order s (b .then) body) (g : q ≡ textsChecked (t .then) (b .pane) body)
-    (h : then ≡ labelChecked q s (t .«text_box» .label)) where
-  own-is : textBoxOwn order s p body ≡ t
-  unfolding textBoxOwn
-  own-is = rw (← e, ← f)
+module _ (m : TextBoxMeasured) where
+  -- the lists after it
+  module _ (order : ByteOrder) (s units lines : List ℕ) where
+    pub filled : (c : Cursor) → m .then ≡ At c → (u l : List ℕ) → (u ≡ over (textBoxUnits order s (m .own)) units) × (l ≡ over (textBoxLines order s (m .own)) lines)
+        → (u ≡ unitsFilled order s m units) × (l ≡ linesFilled order s m lines)
+    unfolding unitsFilled linesFilled unlessRefused
+    filled c h u l k = rw h k
 
-  end-is : textBoxEnd order s p body ≡ then
-  unfolding textBoxEnd
-  end-is = rw (own-is, ← e, ← g, ← h)
+    pub not-filled : (why : Refusal) → m .then ≡ Refused why → (units ≡ unitsFilled order s m units) × (lines ≡ linesFilled order s m lines)
+    unfolding unitsFilled linesFilled unlessRefused
+    not-filled why h = rw h (refl, refl)
 
-  pub read-stands : (c : Cursor) → then ≡ At c → Standing s t
-  read-stands c k =
-      let a : t .then ≡ At c = texts-cleared (t .then) (b .pane) body c (sym g ∙ label-cleared q s (t .«text_box» .label) c (sym h ∙ k)) in
-      rw f (text-box-came order s (b .then) body c (ap (λ (z : TextBoxTaken). z .then) (sym f) ∙ a))
+  -- what a read gives
+  pub given-got : (c : Cursor) → m .then ≡ At c → (answer : Parsed) → answer ≡ parsedOf (At c)
+      → _≡_ {A = TextBoxParsed} (record { answer = answer; base = m .base; «text_box» = m .own .«text_box» }) (textBoxGiven m)
+  unfolding textBoxGiven unlessRefused
+  given-got c h answer a = rw (h, a)
 
-  pub read-got : (c : Cursor) → then ≡ At c → (answer : Parsed) → answer ≡ parsedOf (At c) → (u u₀ l l₀ : List ℕ) → u ≡ over (textBoxUnits order s t) u₀ → l ≡ over (textBoxLines order s t) l₀
-      → Reads order s p body u₀ l₀ (record { answer = answer; base = b .pane; «text_box» = t .«text_box» }) u l
-  unfolding textBoxRead unitsAfter linesAfter unlessRefused
-  read-got c k answer z u u₀ l l₀ i j = rw (end-is, own-is, ← e, k, z) (refl, i, j)
-
-  pub read-refused : (why : Refusal) → then ≡ Refused why → (r : TextBoxParsed) → Blank why r → (u l : List ℕ) → Reads order s p body u l r u l
-  read-refused why k r z u l = refused-at order s p body why (end-is ∙ k) r z u l
+  pub given-refused : (why : Refusal) → m .then ≡ Refused why → (r : TextBoxParsed) → Blank why r → r ≡ textBoxGiven m
+  unfolding textBoxGiven parsedOf unlessRefused
+  given-refused why h r k = rw (h, ← k .answer, ← k .base, ← k .own)
 
 -- ---- 1, 2 and 3
 
@@ -105,13 +114,17 @@ module _ (n nu nl body : ℕ) (p p₁ p₂ : Place) (e : p ≡ bodyStart n body)
       (o .least, omega (arith, o .most, o .within), u, l)
 
   pub start-reads : (order : ByteOrder) (s : List ℕ) (c : Cursor) → p₂ ≡ At c → (u₀ l₀ : List ℕ) (r : TextBoxParsed) (u l : List ℕ)
-      → Reads order s (At c) body u₀ l₀ r u l → Reads order s (textBoxStart n nu nl body) body u₀ l₀ r u l
+      → Reads order s (At c) body Buffer u₀ l₀ r u l → Reads order s (textBoxStart n nu nl body) body Buffer u₀ l₀ r u l
   start-reads order s c k u₀ l₀ r u l h = rw (← starts, k) h
 
   pub start-refused : (order : ByteOrder) (s : List ℕ) (why : Refusal) → p₂ ≡ Refused why → (r : TextBoxParsed) → Blank why r → (u l : List ℕ)
-      → Reads order s (textBoxStart n nu nl body) body u l r u l
+      → Reads order s (textBoxStart n nu nl body) body Buffer u l r u l
+  unfolding textBoxRead unitsAfter linesAfter
   start-refused order s why k r z u l =
-      refused-at order s (textBoxStart n nu nl body) body why (ap (λ (x : Place). textBoxEnd order s x body) (sym starts ∙ k) ∙ end-refused order s why body) r z u l
+      let m = textBoxMeasured order s (Refused why) body Buffer in
+      let g = measured-stays order s why body Buffer in
+      let f = not-filled m order s u l why g in
+      rw (← starts, k) (given-refused m why g r z, f .0, f .1)
 
 -- ---- the write
 

@@ -3,6 +3,7 @@ use core::cursor::ByteOrder;
 use core::cursor::Cursor;
 use core::cursor::Place;
 use core::error::Refusal;
+use core_checks::checks::Extent;
 use core_checks::checks::Parsed;
 use core_checks::checks::Written;
 use pane_checks::checks::names_checked;
@@ -10,6 +11,7 @@ use pane_checks::checks::reserve_checked;
 use pane_checks::checks::texts_checked;
 use pane_read::Pane;
 use text_box_read::TextBoxPane;
+use text_box_read::TextBoxTaken;
 use text_box_write::write;
 ghost use mathlib.Core.Path.{_≡_};
 ghost use Prim.Native.Nat.{_+_, _^_, _≤_, _<_};
@@ -17,8 +19,17 @@ ghost use lib.ListN.{length};
 ghost use Rattle.core.specs.Bytes.{Room, Put};
 ghost use Rattle.core_checks.specs.Checks.{endChecked, parsedByNumber, writtenByNumber};
 ghost use Rattle.pane_read.specs.Pane.{Sound};
+ghost use Rattle.text_box_read.specs.TextBox.{Standing};
 ghost use Rattle.text_box_write.specs.Written.{Small, textBoxLength};
-ghost use Rattle.text_box.specs.Body.{Blank, textBoxRead, textBoxStart, Reads, encodeBody, textBoxWriteChecked, textBoxWritten, textBoxOutput};
+ghost use Rattle.core_checks.specs.declared.checks.Extent.the-variants.{Buffer};
+ghost use Rattle.text_box.specs.Body.{Blank, textBoxMeasured, textBoxGiven, unitsFilled, linesFilled, textBoxRead, textBoxStart, Reads, encodeBody, textBoxWriteChecked, textBoxWritten, textBoxOutput};
+
+// A text box that was measured, where its units and lines stand among what it has of its own, and where the run stands then.
+pub struct TextBoxMeasured {
+    pub base: Pane,
+    pub own: TextBoxTaken,
+    pub then: Place,
+}
 
 // What a body read gives: its answer, and the text box, blank where it was refused.
 pub struct TextBoxParsed {
@@ -37,17 +48,16 @@ fn refused(why: Refusal) -> TextBoxParsed
     }
 }
 
-// The reads, check 7, and only then the lists.
-pub fn read(
+// All reads, check 7 and, in a section, check 19.
+pub fn measure(
     order: ByteOrder,
     data: &[u8],
     p: Place,
     place: usize,
-    units: &mut [u16],
-    lines: &mut [u32],
-) -> TextBoxParsed
-    requires { ⌜ (8 ≤ place) × (place < 2 ^ 32) × (32767 ≤ length (now units)) × (510 ≤ length (now lines)) ⌝ }
-    ensures { λ r. ⌜ Reads order (now («data» .entry)) p place (now (units .entry)) (now (lines .entry)) r (now (units .exit)) (now (lines .exit)) ⌝ }
+    extent: Extent,
+) -> TextBoxMeasured
+    requires { ⌜ (8 ≤ place) × (place < 2 ^ 32) ⌝ }
+    ensures { λ r. ⌜ r ≡ textBoxMeasured order (now («data» .entry)) p place extent ⌝ }
 {
     let taken = pane_read::take_pane(order, data, p);
     let base = taken.pane;
@@ -57,10 +67,38 @@ pub fn read(
     let label = text_box.label;
     let p2 = own.then;
     let p3 = texts_checked(p2, base, place);
-    let then = text_box_checks::label_checked(p3, data, label);
+    let p4 = text_box_checks::label_checked(p3, data, label);
+    let then = core_checks::checks::reach_checked(p4, extent);
+    TextBoxMeasured { base, own, then }
+}
+
+// The units and lines of a text box that was measured and not refused.
+pub fn fill(order: ByteOrder, data: &[u8], m: TextBoxMeasured, units: &mut [u16], lines: &mut [u32])
+    requires { ⌜ ((c : Cursor) → m .then ≡ Place.At c → Standing (now «data») (m .own)) ⌝ }
+    requires { ⌜ (32767 ≤ length (now units)) × (510 ≤ length (now lines)) ⌝ }
+    ensures { λ _. ⌜ now (units .exit) ≡ unitsFilled order (now («data» .entry)) m (now (units .entry)) ⌝ }
+    ensures { λ _. ⌜ now (lines .exit) ≡ linesFilled order (now («data» .entry)) m (now (lines .entry)) ⌝ }
+{
+    let then = m.then;
+    match then {
+        Place::At(_) => {
+            let own = m.own;
+            text_box_read::fill_text_box(order, data, own, units, lines);
+        }
+        Place::Refused(_) => {}
+    }
+}
+
+// What a read gives of what was measured.
+pub fn given(m: TextBoxMeasured) -> TextBoxParsed
+    ensures { λ r. ⌜ r ≡ textBoxGiven m ⌝ }
+{
+    let base = m.base;
+    let own = m.own;
+    let text_box = own.text_box;
+    let then = m.then;
     match then {
         Place::At(c) => {
-            text_box_read::fill_text_box(order, data, own, units, lines);
             let answer = core_checks::checks::read_to(c);
             TextBoxParsed {
                 answer,
@@ -72,6 +110,24 @@ pub fn read(
     }
 }
 
+// The read in a buffer or in a section: measured, filled and given.
+pub fn read(
+    order: ByteOrder,
+    data: &[u8],
+    p: Place,
+    place: usize,
+    extent: Extent,
+    units: &mut [u16],
+    lines: &mut [u32],
+) -> TextBoxParsed
+    requires { ⌜ (8 ≤ place) × (place < 2 ^ 32) × (32767 ≤ length (now units)) × (510 ≤ length (now lines)) ⌝ }
+    ensures { λ r. ⌜ Reads order (now («data» .entry)) p place extent (now (units .entry)) (now (lines .entry)) r (now (units .exit)) (now (lines .exit)) ⌝ }
+{
+    let m = measure(order, data, p, place, extent);
+    fill(order, data, m, units, lines);
+    given(m)
+}
+
 // The text box at a place: checks 1, 2, 3, the reads with 4, 5 and 6, then 7.
 pub fn parse(
     order: ByteOrder,
@@ -80,14 +136,22 @@ pub fn parse(
     units: &mut [u16],
     lines: &mut [u32],
 ) -> TextBoxParsed
-    ensures { λ r. ⌜ Reads order (now («data» .entry)) (textBoxStart (length (now («data» .entry))) (length (now (units .entry))) (length (now (lines .entry))) place) place (now (units .entry)) (now (lines .entry)) r (now (units .exit)) (now (lines .exit)) ⌝ }
-    ensures { λ r. ⌜ parsedByNumber (r .answer) ≡ parsedByNumber (textBoxRead order (now («data» .entry)) (textBoxStart (length (now («data» .entry))) (length (now (units .entry))) (length (now (lines .entry))) place) place .answer) ⌝ }
+    ensures { λ r. ⌜ Reads order (now («data» .entry)) (textBoxStart (length (now («data» .entry))) (length (now (units .entry))) (length (now (lines .entry))) place) place Buffer (now (units .entry)) (now (lines .entry)) r (now (units .exit)) (now (lines .exit)) ⌝ }
+    ensures { λ r. ⌜ parsedByNumber (r .answer) ≡ parsedByNumber (textBoxRead order (now («data» .entry)) (textBoxStart (length (now («data» .entry))) (length (now (units .entry))) (length (now (lines .entry))) place) place Buffer .answer) ⌝ }
 {
     let p = core_checks::checks::body_start(data.len(), place);
     let p1 = core_checks::checks::list_checked(p, 2, 32767, units.len());
     let p2 = core_checks::checks::list_checked(p1, 3, 510, lines.len());
     match p2 {
-        Place::At(c) => read(order, data, Place::At(c), place, units, lines),
+        Place::At(c) => read(
+            order,
+            data,
+            Place::At(c),
+            place,
+            Extent::Buffer,
+            units,
+            lines,
+        ),
         Place::Refused(why) => refused(why),
     }
 }

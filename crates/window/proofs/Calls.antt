@@ -6,14 +6,16 @@ use mathlib.Core.List.{List}
 use lib.ListN.{length}
 use Rattle.pane_checks.proofs.Cleared.{texts-cleared}
 use Rattle.core.specs.Taken.{over}
-use Rattle.core_checks.specs.Checks.{bodyStart, listChecked, endChecked, parsedOf, unlessRefused}
+use Rattle.core_checks.specs.Checks.{bodyStart, listChecked, endChecked, reachChecked, parsedOf, unlessRefused}
 use Rattle.core.specs.declared.error.Refusal.{Refusal}
 use Rattle.core.specs.declared.cursor.ByteOrder.{ByteOrder}
 use Rattle.core.specs.declared.cursor.Cursor.{Cursor}
 use Rattle.core.specs.declared.cursor.Place.{Place}
 use Rattle.core.specs.declared.cursor.Place.the-variants.{At, Refused}
+use Rattle.core_checks.specs.declared.checks.Extent.{Extent}
+use Rattle.core_checks.specs.declared.checks.Extent.the-variants.{Buffer}
 use Rattle.core_checks.specs.declared.checks.Parsed.{Parsed}
-use Rattle.core_checks.proofs.Checked.{BodyOk, body-started, list-cleared, end-cleared, end-stays}
+use Rattle.core_checks.proofs.Checked.{BodyOk, body-started, list-cleared, end-cleared, end-stays, reach-cleared, reach-stays}
 use Rattle.pane_read.specs.Pane.{paneTaken}
 use Rattle.pane_checks.specs.Checks.{textsChecked, namesChecked, reserveChecked}
 use Rattle.pane_read.specs.declared.Pane.{Pane}
@@ -23,39 +25,53 @@ use Rattle.pane.proofs.Calls.{texts-stay}
 use Rattle.pane.proofs.Cleared.{Good, base-cleared}
 use Rattle.window_read.specs.Window.{windowTaken, windowQuads, windowFrames, Ahead}
 use Rattle.window_write.specs.Write.{windowChecked, windowLength, GoodWindow}
-use Rattle.window.specs.Body.{Blank, ownTaken, readPlace, windowRead, readQuads, readFrames, readStart, windowParsed, parsedQuads, parsedFrames, bodyLength, windowWriteChecked}
+use Rattle.window.specs.Body.{Blank, windowMeasured, windowGiven, quadsFilled, framesFilled, windowRead, readQuads, readFrames, readStart, windowParsed, parsedQuads, parsedFrames, bodyLength, windowWriteChecked}
 use Rattle.window_read.specs.declared.read.WindowTaken.{WindowTaken}
+use Rattle.window.specs.declared.body.WindowMeasured.{WindowMeasured}
 use Rattle.window.specs.declared.body.WindowParsed.{WindowParsed}
 use Rattle.window_read.proofs.Run.{window-stays, window-ahead}
 use Rattle.window.proofs.Cleared.{window-cleared}
 
 -- ---- reading
 
--- what a read leaves: its result and the two lists
-abbrev pub Left : ByteOrder → List ℕ → Place → ℕ → List ℕ → List ℕ → WindowParsed → List ℕ → List ℕ → Type 0
-Left order s p body quads frames r quads′ frames′ =
-    (r ≡ windowRead order s p body) × ((quads′ ≡ readQuads order s p body quads) × (frames′ ≡ readFrames order s p body frames))
+-- a run that was refused stays so
+pub measured-stays : (order : ByteOrder) (s : List ℕ) (why : Refusal) (body : ℕ) (x : Extent) → windowMeasured order s (Refused why) body x .then ≡ Refused why
+unfolding windowMeasured
+measured-stays order s why body x =
+    rw (pane-stays order s why, window-stays order s why body, texts-stay why (paneTaken order s (Refused why) .pane) body, reach-stays why x)
 
-module _ (order : ByteOrder) (s : List ℕ) (p : Place) (body : ℕ) (b : PaneTaken) (w : WindowTaken) (q : Place)
-    (e : b ≡ paneTaken order s p) (f : w ≡ windowTaken order s (b .then) body) (g : q ≡ textsChecked (w .then) (b .pane) body) where
-  pub quads-ahead : (c : Cursor) → q ≡ At c → Ahead s (w .quads) (4 * (8 * w .window .content .«quad_count»))
-  quads-ahead c h =
-      let k : w .then ≡ At c = texts-cleared (w .then) (b .pane) body c (sym g ∙ h) in
-      subst (λ (t : WindowTaken). Ahead s (t .quads) (4 * (8 * t .window .content .«quad_count»))) (sym f)
-      (window-ahead order s (b .then) body c (ap (λ (t : WindowTaken). t .then) (sym f) ∙ k))
+-- where nothing was refused the lists may be filled
+pub measured-ready : (order : ByteOrder) (s : List ℕ) (p : Place) (body : ℕ) (x : Extent) (m : WindowMeasured) → m ≡ windowMeasured order s p body x
+    → (c : Cursor) → m .then ≡ At c → Ahead s (m .own .quads) (4 * (8 * m .own .window .content .«quad_count»))
+unfolding windowMeasured
+measured-ready order s p body x m e c h =
+    let b = paneTaken order s p in
+    let t = windowTaken order s (b .then) body in
+    let k = reach-cleared (textsChecked (t .then) (b .pane) body) x c (ap (λ (z : WindowMeasured). z .then) (sym e) ∙ h) in
+    subst (λ (z : WindowMeasured). Ahead s (z .own .quads) (4 * (8 * z .own .window .content .«quad_count»))) (sym e)
+    (window-ahead order s (b .then) body c (texts-cleared (t .then) (b .pane) body c k))
 
-  pub read-got : (c : Cursor) (quads frames quads′ frames′ : List ℕ) → q ≡ At c → (answer : Parsed) → answer ≡ parsedOf (At c) → quads′ ≡ over (windowQuads order s w) quads → frames′ ≡ over (windowFrames order s w body) frames
-      → Left order s p body quads frames (record { answer = answer; base = b .pane; window = w .window }) quads′ frames′
-  unfolding windowRead readQuads readFrames readPlace ownTaken unlessRefused
-  read-got c quads frames quads′ frames′ h answer a k l = rw (← e, ← f, ← g, h, a, k, l) (refl, (refl, refl))
+module _ (m : WindowMeasured) where
+  -- the lists after it
+  module _ (order : ByteOrder) (s : List ℕ) (body : ℕ) (quads frames : List ℕ) where
+    pub filled : (c : Cursor) → m .then ≡ At c → (quads′ frames′ : List ℕ) → quads′ ≡ over (windowQuads order s (m .own)) quads → frames′ ≡ over (windowFrames order s (m .own) body) frames
+        → (quads′ ≡ quadsFilled order s m quads) × (frames′ ≡ framesFilled order s m body frames)
+    unfolding quadsFilled framesFilled unlessRefused
+    filled c h quads′ frames′ k l = rw h (k, l)
 
-  pub read-refused : (why : Refusal) (quads frames : List ℕ) → q ≡ Refused why → (r : WindowParsed) → Blank why r → Left order s p body quads frames r quads frames
-  unfolding windowRead readQuads readFrames readPlace ownTaken parsedOf unlessRefused
-  read-refused why quads frames h r k = rw (← e, ← f, ← g, h, ← k .answer, ← k .base, ← k .window) (refl, (refl, refl))
+    pub not-filled : (why : Refusal) → m .then ≡ Refused why → (quads ≡ quadsFilled order s m quads) × (frames ≡ framesFilled order s m body frames)
+    unfolding quadsFilled framesFilled unlessRefused
+    not-filled why h = rw h (refl, refl)
 
-read-stays : (order : ByteOrder) (s : List ℕ) (why : Refusal) (body : ℕ) → readPlace order s (Refused why) body ≡ Refused why
-unfolding readPlace ownTaken
-read-stays order s why body = rw (pane-stays order s why, window-stays order s why body) (texts-stay why (paneTaken order s (Refused why) .pane) body)
+  -- what a read gives
+  pub given-got : (c : Cursor) → m .then ≡ At c → (answer : Parsed) → answer ≡ parsedOf (At c)
+      → _≡_ {A = WindowParsed} (record { answer = answer; base = m .base; window = m .own .window }) (windowGiven m)
+  unfolding windowGiven unlessRefused
+  given-got c h answer a = rw (h, a)
+
+  pub given-refused : (why : Refusal) → m .then ≡ Refused why → (r : WindowParsed) → Blank why r → r ≡ windowGiven m
+  unfolding windowGiven parsedOf unlessRefused
+  given-refused why h r k = rw (h, ← k .answer, ← k .base, ← k .window)
 
 -- what checks 1, 2 and 3 tell
 pub started : (n body q f : ℕ) (p₁ p₂ p₃ : Place) → p₁ ≡ bodyStart n body → p₂ ≡ listChecked p₁ 1 2040 q → p₃ ≡ listChecked p₂ 4 510 f
@@ -66,7 +82,7 @@ started n body q f p₁ p₂ p₃ e₁ e₂ e₃ c h =
     let (k, o) = body-started n body c (sym e₁ ∙ h₁) in
     ((o .least, omega (arith, o .most, o .within)), (hq, hf))
 
--- the same of a call
+-- what a call leaves: its result and the two lists
 abbrev pub Called : ByteOrder → List ℕ → ℕ → List ℕ → List ℕ → WindowParsed → List ℕ → List ℕ → Type 0
 Called order s body quads frames r quads′ frames′ =
     (r ≡ windowParsed order s body quads frames) × ((quads′ ≡ parsedQuads order s body quads frames) × (frames′ ≡ parsedFrames order s body quads frames))
@@ -77,14 +93,18 @@ module _ (order : ByteOrder) (s : List ℕ) (body : ℕ) (quads frames : List �
   unfolding readStart
   start = rw (← e₁, ← e₂, ← e₃)
 
-  pub parsed : (c : Cursor) (r : WindowParsed) (quads′ frames′ : List ℕ) → p₃ ≡ At c → Left order s (At c) body quads frames r quads′ frames′
+  pub parsed : (c : Cursor) (r : WindowParsed) (quads′ frames′ : List ℕ) → p₃ ≡ At c
+      → (r ≡ windowRead order s (At c) body Buffer) × ((quads′ ≡ readQuads order s (At c) body Buffer quads) × (frames′ ≡ readFrames order s (At c) body Buffer frames))
       → Called order s body quads frames r quads′ frames′
   unfolding windowParsed parsedQuads parsedFrames
   parsed c r quads′ frames′ h k = rw (start, h) k
 
   pub parsed-refused : (why : Refusal) (r : WindowParsed) → p₃ ≡ Refused why → Blank why r → Called order s body quads frames r quads frames
-  unfolding windowParsed parsedQuads parsedFrames windowRead readQuads readFrames parsedOf unlessRefused
-  parsed-refused why r h k = rw (start, h, read-stays order s why body, ← k .answer, ← k .base, ← k .window) (refl, (refl, refl))
+  unfolding windowParsed parsedQuads parsedFrames windowRead readQuads readFrames
+  parsed-refused why r h k =
+      let m = windowMeasured order s (Refused why) body Buffer in
+      let g = measured-stays order s why body Buffer in
+      rw (start, h) (given-refused m why g r k, not-filled m order s body quads frames why g)
 
 -- ---- writing
 

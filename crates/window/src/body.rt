@@ -1,8 +1,10 @@
 // The body calls of a window pane: any bytes are read or refused, any pane is written or refused.
 use core::cursor::ByteOrder;
+use core::cursor::Cursor;
 use core::cursor::Place;
 use core::error::Refusal;
 use core_checks::checks;
+use core_checks::checks::Extent;
 use core_checks::checks::Parsed;
 use core_checks::checks::Written;
 use pane_checks::checks::names_checked;
@@ -10,19 +12,28 @@ use pane_checks::checks::reserve_checked;
 use pane_checks::checks::texts_checked;
 use pane_read::Pane;
 use window_read::WindowPane;
+use window_read::read::WindowTaken;
 use window_read::read::fill_window;
 use window_read::read::measure_window;
 use window_write::write::put_window;
 use window_write::write::window_checked;
 use window_write::write::window_length;
 ghost use mathlib.Core.Path.{_≡_};
-ghost use Prim.Native.Nat.{_^_, _≤_, _<_};
+ghost use Prim.Native.Nat.{_*_, _^_, _≤_, _<_};
 ghost use lib.ListN.{length};
 ghost use Rattle.core.specs.Bytes.{Room, Put};
 ghost use Rattle.core_checks.specs.Checks.{parsedByNumber, writtenByNumber};
 ghost use Rattle.pane_read.specs.Pane.{Sound};
 ghost use Rattle.window_write.specs.Write.{GoodWindow};
-ghost use Rattle.window.specs.Body.{Blank, windowRead, readQuads, readFrames, windowParsed, parsedQuads, parsedFrames, windowWriteChecked, bodyLength, encodeBody, windowWritten, windowOutput};
+ghost use Rattle.window_read.specs.Window.{Ahead};
+ghost use Rattle.window.specs.Body.{Blank, windowMeasured, windowGiven, quadsFilled, framesFilled, windowRead, readQuads, readFrames, windowParsed, parsedQuads, parsedFrames, windowWriteChecked, bodyLength, encodeBody, windowWritten, windowOutput};
+
+// A pane that was measured, where its quads and frames stand among what it has of its own, and where the run stands then.
+pub struct WindowMeasured {
+    pub base: Pane,
+    pub own: WindowTaken,
+    pub then: Place,
+}
 
 // What a body read gives: its answer, and the pane, blank where it was refused.
 pub struct WindowParsed {
@@ -41,31 +52,62 @@ fn refused(why: Refusal) -> WindowParsed
     }
 }
 
-// The reads, check 7, and the lists filled only then.
-pub fn read(
+// All reads, check 7 and, in a section, check 19.
+pub fn measure(
     order: ByteOrder,
     data: &[u8],
     p: Place,
     place: usize,
-    quads: &mut [u32],
-    frames: &mut [u16],
-) -> WindowParsed
+    extent: Extent,
+) -> WindowMeasured
     requires { ⌜ (8 ≤ place) × (place < 2 ^ 32) ⌝ }
-    requires { ⌜ (2040 ≤ length (now quads)) × (510 ≤ length (now frames)) ⌝ }
-    ensures { λ r. ⌜ r ≡ windowRead order (now («data» .entry)) p place ⌝ }
-    ensures { λ _. ⌜ now (quads .exit) ≡ readQuads order (now («data» .entry)) p place (now (quads .entry)) ⌝ }
-    ensures { λ _. ⌜ now (frames .exit) ≡ readFrames order (now («data» .entry)) p place (now (frames .entry)) ⌝ }
+    ensures { λ r. ⌜ r ≡ windowMeasured order (now («data» .entry)) p place extent ⌝ }
 {
     let taken = pane_read::take_pane(order, data, p);
     let base = taken.pane;
     let p1 = taken.then;
     let own = measure_window(order, data, p1, place);
-    let window = own.window;
     let p2 = own.then;
-    let then = texts_checked(p2, base, place);
+    let p3 = texts_checked(p2, base, place);
+    let then = checks::reach_checked(p3, extent);
+    WindowMeasured { base, own, then }
+}
+
+// The quads and frames of a pane that was measured and not refused.
+pub fn fill(
+    order: ByteOrder,
+    data: &[u8],
+    m: WindowMeasured,
+    place: usize,
+    quads: &mut [u32],
+    frames: &mut [u16],
+)
+    requires { ⌜ (8 ≤ place) × (place < 2 ^ 32) ⌝ }
+    requires { ⌜ ((c : Cursor) → m .then ≡ Place.At c → Ahead (now «data») (m .own .quads) (4 * (8 * m .own .window .content .«quad_count»))) ⌝ }
+    requires { ⌜ (2040 ≤ length (now quads)) × (510 ≤ length (now frames)) ⌝ }
+    ensures { λ _. ⌜ now (quads .exit) ≡ quadsFilled order (now («data» .entry)) m (now (quads .entry)) ⌝ }
+    ensures { λ _. ⌜ now (frames .exit) ≡ framesFilled order (now («data» .entry)) m place (now (frames .entry)) ⌝ }
+{
+    let then = m.then;
+    match then {
+        Place::At(_) => {
+            let own = m.own;
+            fill_window(order, data, own, place, quads, frames);
+        }
+        Place::Refused(_) => {}
+    }
+}
+
+// What a read gives of what was measured.
+pub fn given(m: WindowMeasured) -> WindowParsed
+    ensures { λ r. ⌜ r ≡ windowGiven m ⌝ }
+{
+    let base = m.base;
+    let own = m.own;
+    let window = own.window;
+    let then = m.then;
     match then {
         Place::At(c) => {
-            fill_window(order, data, own, place, quads, frames);
             let answer = checks::read_to(c);
             WindowParsed {
                 answer,
@@ -75,6 +117,27 @@ pub fn read(
         }
         Place::Refused(why) => refused(why),
     }
+}
+
+// The read in a buffer or in a section: measured, filled and given.
+pub fn read(
+    order: ByteOrder,
+    data: &[u8],
+    p: Place,
+    place: usize,
+    extent: Extent,
+    quads: &mut [u32],
+    frames: &mut [u16],
+) -> WindowParsed
+    requires { ⌜ (8 ≤ place) × (place < 2 ^ 32) ⌝ }
+    requires { ⌜ (2040 ≤ length (now quads)) × (510 ≤ length (now frames)) ⌝ }
+    ensures { λ r. ⌜ r ≡ windowRead order (now («data» .entry)) p place extent ⌝ }
+    ensures { λ _. ⌜ now (quads .exit) ≡ readQuads order (now («data» .entry)) p place extent (now (quads .entry)) ⌝ }
+    ensures { λ _. ⌜ now (frames .exit) ≡ readFrames order (now («data» .entry)) p place extent (now (frames .entry)) ⌝ }
+{
+    let m = measure(order, data, p, place, extent);
+    fill(order, data, m, place, quads, frames);
+    given(m)
 }
 
 // The window pane at a place: checks 1, 2, 3, the reads with 4, then 7. A refusal leaves the lists as they were.
@@ -94,7 +157,15 @@ pub fn parse(
     let p = checks::list_checked(p, 1, 2040, quads.len());
     let p = checks::list_checked(p, 4, 510, frames.len());
     match p {
-        Place::At(c) => read(order, data, Place::At(c), place, quads, frames),
+        Place::At(c) => read(
+            order,
+            data,
+            Place::At(c),
+            place,
+            Extent::Buffer,
+            quads,
+            frames,
+        ),
         Place::Refused(why) => refused(why),
     }
 }

@@ -2,10 +2,16 @@ use mathlib.Core.List.{append-nil}
 use native.Mathlib.Omega.{arith}
 use Rattle.lines.proofs.Sized.{put-sized, put-named}
 use borrow.Author.Tests.{eq-eqb, ne-eqb}
-use Rattle.page.specs.PageLine.{eofText, noNulText, perCharacterText, sectionSizeText, sentence}
+use Rattle.page.specs.PageLine.{eofText, noNulText, perCharacterText, sectionSizeText, pastSectionText, sentence}
 use borrow.Author.Needs.{needs}
 use Rattle.page.proofs.line.put_sentence.Statement.{statement}
 use Rattle.page.proofs.line.put_sentence.Tie as tie
+use Rattle.page.proofs.line.put_sentence.Reads as reads
+use Rattle.page.proofs.line.put_sentence.Lts as lts
+use Rattle.core_write.proofs.writer.put_bytes.Reads as put-bytes-reads
+use Rattle.page.proofs.line.put_ill_formed.Reads as put-ill-formed-reads
+use Rattle.page.proofs.line.put_number.Reads as put-number-reads
+use Rattle.page.proofs.line.put_numbers.Reads as put-numbers-reads
 
 slice-aggregate-put-numbers : tie.Need-slice-aggregate-put-numbers
 slice-aggregate-put-numbers c = search needs
@@ -78,18 +84,34 @@ returns-5 : tie.Need-returns-5
 unfolding sentence sectionSizeText
 returns-5 c = rw (ne-eqb _ _ (c .before .before .before .before .before .before .before .before .before .before .before .before .if1 .left), ne-eqb _ _ (c .before .before .before .before .before .before .before .before .before .before .before .if2 .left), ne-eqb _ _ (c .before .before .before .before .before .before .before .before .before .before .if3 .left), ne-eqb _ _ (c .before .before .before .before .before .before .before .before .before .if4 .left), eq-eqb _ _ (c .before .before .before .before .before .before .before .before .if5 .taken)) (c .before .before .put-numbers2 .ensures .0, omega arith)
 
+slice-aggregate-put-numbers-6 : tie.Need-slice-aggregate-put-numbers-6
+slice-aggregate-put-numbers-6 c = search needs
+
+slice-aggregate-put-numbers-7 : tie.Need-slice-aggregate-put-numbers-7
+slice-aggregate-put-numbers-7 c = search needs
+
+put-numbers-requires-3 : tie.Need-put-numbers-requires-3
+put-numbers-requires-3 c κs = search needs
+
+same-length-6 : tie.Need-same-length-6
+same-length-6 c = search needs
+
+returns-6 : tie.Need-returns-6
+unfolding sentence pastSectionText
+returns-6 c = rw (ne-eqb _ _ (c .before .before .before .before .before .before .before .before .before .before .before .before .before .if1 .left), ne-eqb _ _ (c .before .before .before .before .before .before .before .before .before .before .before .before .if2 .left), ne-eqb _ _ (c .before .before .before .before .before .before .before .before .before .before .before .if3 .left), ne-eqb _ _ (c .before .before .before .before .before .before .before .before .before .before .if4 .left), ne-eqb _ _ (c .before .before .before .before .before .before .before .before .before .if5 .left), eq-eqb _ _ (c .before .before .before .before .before .before .before .before .if6 .taken)) (put-named (append-nil _) (c .before .before .put-numbers3 .ensures .0), omega arith)
+
 slice-aggregate-put-bytes : tie.Need-slice-aggregate-put-bytes
 slice-aggregate-put-bytes c = search needs
 
 put-bytes-requires : tie.Need-put-bytes-requires
 put-bytes-requires c κs = search needs
 
-same-length-6 : tie.Need-same-length-6
-same-length-6 c = search needs
+same-length-7 : tie.Need-same-length-7
+same-length-7 c = search needs
 
-returns-6 : tie.Need-returns-6
+returns-7 : tie.Need-returns-7
 unfolding sentence
-returns-6 c = rw (ne-eqb _ _ (c .before .before .before .before .before .before .before .before .before .if1 .left), ne-eqb _ _ (c .before .before .before .before .before .before .before .before .if2 .left), ne-eqb _ _ (c .before .before .before .before .before .before .before .if3 .left), ne-eqb _ _ (c .before .before .before .before .before .before .if4 .left), ne-eqb _ _ (c .before .before .before .before .before .if5 .left)) (put-sized (c .before .before .put-bytes .ensures), omega arith)
+returns-7 c = rw (ne-eqb _ _ (c .before .before .before .before .before .before .before .before .before .before .if1 .left), ne-eqb _ _ (c .before .before .before .before .before .before .before .before .before .if2 .left), ne-eqb _ _ (c .before .before .before .before .before .before .before .before .if3 .left), ne-eqb _ _ (c .before .before .before .before .before .before .before .if4 .left), ne-eqb _ _ (c .before .before .before .before .before .before .if5 .left), ne-eqb _ _ (c .before .before .before .before .before .if6 .left)) (put-sized (c .before .before .put-bytes .ensures), omega arith)
 
 pub put-sentence-spec : {M : Type 1} → statement M
 put-sentence-spec =
@@ -117,7 +139,12 @@ put-sentence-spec =
     put-numbers-requires-2
     same-length-5
     returns-5
+    slice-aggregate-put-numbers-6
+    slice-aggregate-put-numbers-7
+    put-numbers-requires-3
+    same-length-6
+    returns-6
     slice-aggregate-put-bytes
     put-bytes-requires
-    same-length-6
-    returns-6)
+    same-length-7
+    returns-7)

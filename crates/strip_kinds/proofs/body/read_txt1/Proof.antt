@@ -1,25 +1,17 @@
-use Rattle.strip_kinds.specs.Body.{bodyRead}
+use Rattle.strip_kinds.proofs.Bodies.{txt-made}
 use borrow.Author.Needs.{needs}
 use Rattle.strip_kinds.proofs.body.read_txt1.Statement.{statement}
 use Rattle.strip_kinds.proofs.body.read_txt1.Tie as tie
 use Rattle.strip_kinds.proofs.body.read_txt1.Reads as reads
 use Rattle.strip_kinds.proofs.body.read_txt1.Lts as lts
-use Rattle.alignment_fields.proofs.blank_alignment.Reads as blank-alignment-reads
-use Rattle.picture_fields.proofs.blank_picture.Reads as blank-picture-reads
+use Rattle.strip_kinds.proofs.body.txt1_read.Reads as txt1-read-reads
 use Rattle.text_box.proofs.body.read.Reads as read-reads
-use Rattle.window_read.proofs.blank_window.Reads as blank-window-reads
 
 read-requires : tie.Need-read-requires
 read-requires c κs = search needs
 
-blank-picture-requires : tie.Need-blank-picture-requires
-blank-picture-requires c κs = search needs
-
-blank-window-requires : tie.Need-blank-window-requires
-blank-window-requires c κs = search needs
-
-blank-alignment-requires : tie.Need-blank-alignment-requires
-blank-alignment-requires c κs = search needs
+txt1-read-requires : tie.Need-txt1-read-requires
+txt1-read-requires c κs = search needs
 
 same-length : tie.Need-same-length
 same-length c = search needs
@@ -28,17 +20,8 @@ same-length-2 : tie.Need-same-length-2
 same-length-2 c = search needs
 
 returns : tie.Need-returns
-unfolding bodyRead
-returns c = (rw (c .blank-alignment .ensures, c .before .blank-window .ensures, c .before .before .blank-picture .ensures, c .before .before .before .before .before .before .before .before .before .read .ensures .0), (c .before .before .before .before .before .before .before .before .before .read .ensures .1, c .before .before .before .before .before .before .before .before .before .read .ensures .2))
+returns c = (txt-made _ _ _ _ _ _ _ (c .before .before .before .before .before .read .ensures .0) (c .txt1-read .ensures), (c .before .before .before .before .before .read .ensures .1, c .before .before .before .before .before .read .ensures .2))
 
 pub read-txt1-spec : {M : Type 1} → statement M
 read-txt1-spec =
-    tie.close
-    (tie.spec
-    read-requires
-    blank-picture-requires
-    blank-window-requires
-    blank-alignment-requires
-    same-length
-    same-length-2
-    returns)
+    tie.close (tie.spec read-requires txt1-read-requires same-length same-length-2 returns)

@@ -1,25 +1,17 @@
-use Rattle.strip_kinds.specs.Body.{bodyRead}
+use Rattle.strip_kinds.proofs.Bodies.{wnd-made}
 use borrow.Author.Needs.{needs}
 use Rattle.strip_kinds.proofs.body.read_wnd1.Statement.{statement}
 use Rattle.strip_kinds.proofs.body.read_wnd1.Tie as tie
 use Rattle.strip_kinds.proofs.body.read_wnd1.Reads as reads
 use Rattle.strip_kinds.proofs.body.read_wnd1.Lts as lts
-use Rattle.alignment_fields.proofs.blank_alignment.Reads as blank-alignment-reads
-use Rattle.picture_fields.proofs.blank_picture.Reads as blank-picture-reads
-use Rattle.text_box_read.proofs.blank_text_box.Reads as blank-text-box-reads
+use Rattle.strip_kinds.proofs.body.wnd1_read.Reads as wnd1-read-reads
 use Rattle.window.proofs.body.read.Reads as read-reads
 
 read-requires : tie.Need-read-requires
 read-requires c κs = search needs
 
-blank-picture-requires : tie.Need-blank-picture-requires
-blank-picture-requires c κs = search needs
-
-blank-text-box-requires : tie.Need-blank-text-box-requires
-blank-text-box-requires c κs = search needs
-
-blank-alignment-requires : tie.Need-blank-alignment-requires
-blank-alignment-requires c κs = search needs
+wnd1-read-requires : tie.Need-wnd1-read-requires
+wnd1-read-requires c κs = search needs
 
 same-length : tie.Need-same-length
 same-length c = search needs
@@ -28,17 +20,8 @@ same-length-2 : tie.Need-same-length-2
 same-length-2 c = search needs
 
 returns : tie.Need-returns
-unfolding bodyRead
-returns c = (rw (c .blank-alignment .ensures, c .before .blank-text-box .ensures, c .before .before .blank-picture .ensures, c .before .before .before .before .before .before .before .before .before .read .ensures .0), (c .before .before .before .before .before .before .before .before .before .read .ensures .1 .0, c .before .before .before .before .before .before .before .before .before .read .ensures .1 .1))
+returns c = (wnd-made _ _ _ _ _ _ _ (c .before .before .before .before .before .read .ensures .0) (c .wnd1-read .ensures), c .before .before .before .before .before .read .ensures .1)
 
 pub read-wnd1-spec : {M : Type 1} → statement M
 read-wnd1-spec =
-    tie.close
-    (tie.spec
-    read-requires
-    blank-picture-requires
-    blank-text-box-requires
-    blank-alignment-requires
-    same-length
-    same-length-2
-    returns)
+    tie.close (tie.spec read-requires wnd1-read-requires same-length same-length-2 returns)

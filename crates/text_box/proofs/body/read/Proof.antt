@@ -1,34 +1,22 @@
-use Rattle.text_box.proofs.Calls.{read-stands, read-got, read-refused}
+use Rattle.text_box.specs.Body.{textBoxRead, unitsAfter, linesAfter}
+use Rattle.text_box.proofs.Calls.{measured-ready}
 use borrow.Author.Needs.{needs}
 use Rattle.text_box.proofs.body.read.Statement.{statement}
 use Rattle.text_box.proofs.body.read.Tie as tie
+use Rattle.text_box.proofs.body.read.Reads as reads
+use Rattle.text_box.proofs.body.read.Lts as lts
+use Rattle.text_box.proofs.body.fill.Reads as fill-reads
+use Rattle.text_box.proofs.body.given.Reads as given-reads
+use Rattle.text_box.proofs.body.measure.Reads as measure-reads
 
-take-pane-requires : tie.Need-take-pane-requires
-take-pane-requires c κs = search needs
+measure-requires : tie.Need-measure-requires
+measure-requires c κs = search needs
 
-measure-text-box-requires : tie.Need-measure-text-box-requires
-measure-text-box-requires c κs = search needs
+fill-requires : tie.Need-fill-requires
+fill-requires c κs = (measured-ready _ _ _ _ _ _ (c .before .before .measure .ensures), (c .before .before .before .before .before .before .pre .2, c .before .before .before .before .before .before .pre .3))
 
-texts-checked-requires : tie.Need-texts-checked-requires
-texts-checked-requires c κs = search needs
-
-label-checked-requires : tie.Need-label-checked-requires
-label-checked-requires c κs = search needs
-
-enum-known-then : tie.Need-enum-known-then
-enum-known-then c = search needs
-
-fill-text-box-requires : tie.Need-fill-text-box-requires
-fill-text-box-requires c κs = (read-stands _ _ _ _ _ _ _ _ (c .before .before .before .before .before .before .before .before .before .before .take-pane .ensures) (c .before .before .before .before .before .before .before .before .measure-text-box .ensures) (c .before .before .before .before .before .before .texts-checked .ensures) (c .before .before .before .before .before .label-checked .ensures) _ (c .before .before .before .then .given .1), c .before .before .before .before .before .before .before .before .before .before .before .before .before .before .pre .2, c .before .before .before .before .before .before .before .before .before .before .before .before .before .before .pre .3)
-
-read-to-requires : tie.Need-read-to-requires
-read-to-requires c κs = search needs
-
-enum-known-then-2 : tie.Need-enum-known-then-2
-enum-known-then-2 c = search needs
-
-refused-requires : tie.Need-refused-requires
-refused-requires c κs = search needs
+given-requires : tie.Need-given-requires
+given-requires c κs = search needs
 
 same-length : tie.Need-same-length
 same-length c = search needs
@@ -37,25 +25,10 @@ same-length-2 : tie.Need-same-length-2
 same-length-2 c = search needs
 
 returns : tie.Need-returns
-returns c = read-got _ _ _ _ _ _ _ _ (c .before .before .before .before .before .before .before .before .before .before .before .before .before .before .before .before .take-pane .ensures) (c .before .before .before .before .before .before .before .before .before .before .before .before .before .before .measure-text-box .ensures) (c .before .before .before .before .before .before .before .before .before .before .before .before .texts-checked .ensures) (c .before .before .before .before .before .before .before .before .before .before .before .label-checked .ensures) _ (c .before .before .before .before .before .before .before .before .before .then .given .1) _ (c .read-to .ensures) _ _ _ _ (c .before .before .before .before .before .fill-text-box .ensures .0) (c .before .before .before .before .before .fill-text-box .ensures .1)
-
-returns-2 : tie.Need-returns-2
-returns-2 c = read-refused _ _ _ _ _ _ _ _ (c .before .before .before .before .before .before .before .before .before .take-pane .ensures) (c .before .before .before .before .before .before .before .measure-text-box .ensures) (c .before .before .before .before .before .texts-checked .ensures) (c .before .before .before .before .label-checked .ensures) _ (c .before .before .then2 .given .1) _ (c .refused .ensures) _ _
+unfolding textBoxRead unitsAfter linesAfter
+returns c = rw (← c .before .before .before .before .before .before .before .before .measure .ensures) (c .given .ensures, c .before .before .before .before .before .fill .ensures .0, c .before .before .before .before .before .fill .ensures .1)
 
 pub read-spec : {M : Type 1} → statement M
 read-spec =
     tie.close
-    (tie.spec
-    take-pane-requires
-    measure-text-box-requires
-    texts-checked-requires
-    label-checked-requires
-    enum-known-then
-    fill-text-box-requires
-    read-to-requires
-    enum-known-then-2
-    refused-requires
-    same-length
-    same-length-2
-    returns
-    returns-2)
+    (tie.spec measure-requires fill-requires given-requires same-length same-length-2 returns)

@@ -236,7 +236,7 @@ extern "C" {
 /* Written. The end place, 0, 0. */
 #define BIDLOMEQA_WRITTEN 3u
 
-/* Refused. Document 01's number, figure a, figure b. */
+/* Refused. The number, document 01's or one that document 02 adds, figure a, figure b. */
 #define BIDLOMEQA_REFUSED 4u
 
 /* The record's words are fewer than RECORD_WORDS: RECORD_WORDS, 0, 0. Nothing was read or written. */
@@ -280,13 +280,15 @@ extern "C" {
 
 /*
  * The reach, the third word of the answer PANE, is the first place past all bytes that the read of the body looked at. It is never before the place
- * after the body, and never past `data_length`. It is for a caller that keeps only part of a page in memory:
+ * after the body, and never past `data_length`. Of a section read it is never past the next section's place: a pane that looks further is refused by 19,
+ * with its reach and the section's end as the figures, so the bytes of its section decide a pane. A body read knows of no section and is never refused
+ * by 19. The reach is for a caller that keeps only part of a page in memory:
  * - All bytes that the read looked at lie from the section's place (of a body call: from `place` - 8) up to the reach. Other data that is no shorter and
  *   has the same bytes there gives the same answer, record, lists and label, unless it is too long for a call (refusal 1).
  * - Data that is cut below the reach is refused. The one exception is a section read of data that is cut right at `place`, which answers END.
  * - Data that is cut right at the reach may still be refused: the section's size must not pass the end of `data`, and nor must a place that is sought with
- *   nothing to read there, that of a text with no units or of a table with no frames. So hand in as many bytes as the page has. Those that do not lie in
- *   that part may have any value, but must be memory that can be read.
+ *   nothing to read there, that of a text with no units or of a table with no frames, which may lie past the section too. So hand in as many bytes as the
+ *   page has. Those that do not lie in that part may have any value, but must be memory that can be read.
  */
 
 /* Reads the section at `place`: END, PASSED, PANE, REFUSED, SHORT_RECORD, BAD_ORDER or SHORT_ANSWER. */

@@ -33,11 +33,11 @@ pub enum Section<'a> {
     End,
     /// A section of another kind; the next one's place.
     Passed { next: usize },
-    /// A pane; the place after its body, the next section's place, and how far the read looked ([`View::reach`]).
+    /// A pane; the place after its body, the next section's place, and how far the read looked ([`View::reach`]), which is never past the next section's place.
     Pane { view: View<'a>, end: usize, next: usize, reach: usize },
 }
 
-/// What a body read gives: the pane, the place after it, and how far the read looked ([`View::reach`]).
+/// What a body read gives: the pane, the place after it, and how far the read looked ([`View::reach`]), which may be anywhere up to the buffer's end.
 #[derive(Debug, Clone, Copy)]
 pub struct Body<'a> {
     pub view: View<'a>,
@@ -116,7 +116,8 @@ impl Buffer {
         }
     }
 
-    /// Reads the section at `place` of the strip, whose numbers stand in the byte order.
+    /// Reads the section at `place` of the strip, whose numbers stand in the byte order. A pane that reads bytes past its section is refused
+    /// ([`Refusal::PastSection`]), after all other refusals of a read.
     pub fn read_section<'a>(&'a mut self, order: ByteOrder, strip: &'a [u8], place: usize) -> Result<Section<'a>, Refusal> {
         let mut answer = Answer::default();
         let mut lists = ReadLists { quads: &mut self.quads, units: &mut self.units, lines: &mut self.lines, frames: &mut self.frames };
@@ -132,7 +133,8 @@ impl Buffer {
         }
     }
 
-    /// Reads a body of the kind at `place` of the data, whose numbers stand in the byte order.
+    /// Reads a body of the kind at `place` of the data, whose numbers stand in the byte order. There is no section that it must keep to: its parts may lie
+    /// anywhere in the data.
     pub fn read_body<'a>(&'a mut self, order: ByteOrder, kind: Kind, data: &'a [u8], place: usize) -> Result<Body<'a>, Refusal> {
         let mut answer = Answer::default();
         let mut lists = ReadLists { quads: &mut self.quads, units: &mut self.units, lines: &mut self.lines, frames: &mut self.frames };

@@ -1,7 +1,8 @@
 //! Why a call is refused.
 use std::fmt;
 
-/// The rows of document 01's table of refusals, each with its figures.
+/// The rows of document 01's table of refusals, 1 to 16, and 19 of document 02, each with its figures; docs/REFUSALS.md tells what each
+/// means. `PastSection` is 19: the pane reads bytes past its section, which ends at `end`, as far as `reach`. A body read knows of no section and never gives it.
 #[derive(Debug, Clone, Copy, PartialEq, Eq)]
 pub enum Refusal {
     TooLong { length: u64 },
@@ -20,6 +21,7 @@ pub enum Refusal {
     IllFormedUtf16 { units: u64 },
     NoLineBit,
     OutputEnd { end: u64, length: u64 },
+    PastSection { reach: u64, end: u64 },
 }
 
 impl Refusal {
@@ -42,11 +44,12 @@ impl Refusal {
             14 => Self::IllFormedUtf16 { units: a },
             15 => Self::NoLineBit,
             16 => Self::OutputEnd { end: a, length: b },
+            19 => Self::PastSection { reach: a, end: b },
             _ => return None,
         })
     }
 
-    /// Document 01's number and the figures a and b.
+    /// The number, document 01's or document 02's, and the figures a and b.
     pub fn figures(self) -> (u64, u64, u64) {
         match self {
             Self::TooLong { length } => (1, length, 0),
@@ -65,10 +68,11 @@ impl Refusal {
             Self::IllFormedUtf16 { units } => (14, units, 0),
             Self::NoLineBit => (15, 0, 0),
             Self::OutputEnd { end, length } => (16, end, length),
+            Self::PastSection { reach, end } => (19, reach, end),
         }
     }
 
-    /// Document 01's number.
+    /// The number, document 01's or document 02's.
     pub fn number(self) -> u64 {
         self.figures().0
     }
@@ -107,6 +111,7 @@ impl fmt::Display for Refusal {
             Self::IllFormedUtf16 { units } => write!(f, "the text is ill-formed UTF-16 at unit {units}"),
             Self::NoLineBit => write!(f, "there is a line table, but the flag is_line_transform is not set"),
             Self::OutputEnd { end, length } => write!(f, "what is written ends at {end}, and the output has {length} bytes"),
+            Self::PastSection { reach, end } => write!(f, "the pane looks as far as {reach}, past the end of its section at {end}"),
         }
     }
 }

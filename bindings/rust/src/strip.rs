@@ -61,7 +61,8 @@ impl From<Refused> for NotWritten {
     }
 }
 
-/// Reads every section of a page, so that [`write_page`] writes back those of other kinds too.
+/// Reads every section of a page, so that [`write_page`] writes back those of other kinds too. The first section that is refused ends it, be it for a pane that
+/// reads bytes past its own section ([`Refusal::PastSection`]).
 pub fn read_page(order: ByteOrder, strip: &[u8]) -> Result<Vec<Piece>, Refused> {
     let mut buffer = Buffer::new();
     let mut pieces = Vec::new();

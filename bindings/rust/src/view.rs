@@ -23,14 +23,17 @@ impl<'a> View<'a> {
     }
 
     /// How far the read looked: the first place of the buffer past all bytes that it read. It is never before the place after the body, and never past the
-    /// buffer's end. It is for a caller that keeps only part of a page in memory:
+    /// buffer's end. Of a section read it is never past the section's end, the next section's place: a pane that looks further is refused
+    /// ([`Refusal::PastSection`](crate::Refusal::PastSection)), so the bytes of its section decide a pane. A body read knows of no section.
+    ///
+    /// It is for a caller that keeps only part of a page in memory:
     ///
     /// - All bytes that the read looked at lie from the section's place (of a body call: from 8 before its place) up to the reach. Another buffer that is no
     ///   shorter and has the same bytes there gives the same answer, record, lists and label, unless it is too long for a call (refusal 1).
     /// - A buffer that is cut below the reach is refused. The one exception is a section read of a buffer that is cut right at the place, which gives [`Section::End`](crate::Section::End).
     /// - A buffer that is cut right at the reach may still be refused: the section's size must not pass its end, and nor must a place that is sought with
-    ///   nothing to read there, that of a text with no units or of a table with no frames. So hand in as many bytes as the page has. Those that do not lie in
-    ///   that part may have any value.
+    ///   nothing to read there, that of a text with no units or of a table with no frames, which may lie past the section too. So hand in as many bytes as the
+    ///   page has. Those that do not lie in that part may have any value.
     pub fn reach(&self) -> usize {
         self.reach
     }

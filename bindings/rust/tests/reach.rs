@@ -2,33 +2,9 @@
 use bidlomeqa::layout::RECORD_WORDS;
 use bidlomeqa::ByteOrder::{Big, Little};
 use bidlomeqa::*;
+use bytes::*;
 
-// Where numbers of a text box and of a window stand in a section at 0.
-const TEXT_LENGTH: usize = 8 + 78;
-const TEXT_FLAGS: usize = 8 + 86;
-const TEXT: usize = 8 + 92;
-const LABEL: usize = 8 + 120;
-const LINES: usize = 8 + 152;
-const PER_CHARACTER: usize = 8 + 156;
-const FRAMES: usize = 8 + 92;
-const CONTENT: usize = 8 + 96;
-const TABLE: usize = 8 + 100;
-
-// A section at 0: fixed bytes of zeros and the bytes after them, then numbers put in, each by its place, its width and its value.
-fn section(order: ByteOrder, kind: Kind, after: &[u8], numbers: &[(usize, usize, u32)]) -> Vec<u8> {
-    let fixed = [76, 96, 160, 104, 88][kind as usize];
-    let mut data = [&vec![0; 8 + fixed][..], after].concat();
-    data[..4].copy_from_slice(kind.letters());
-    let size = (4, 4, data.len() as u32);
-    for (at, width, number) in [&[size][..], numbers].concat() {
-        let bytes = &mut data[at..at + width];
-        bytes.copy_from_slice(&number.to_le_bytes()[..width]);
-        if order == Big {
-            bytes.reverse();
-        }
-    }
-    data
-}
+mod bytes;
 
 // All that a read gives; the next place is 0 of a body call.
 #[derive(Debug, Clone, PartialEq)]
@@ -212,14 +188,14 @@ fn the_bytes_up_to_the_reach_decide_the_read() {
 }
 
 #[test]
-fn a_part_beyond_the_section_counts() {
+fn a_part_of_a_body_may_lie_anywhere() {
     for order in [Little, Big] {
         let mut page = section(order, Kind::Txt1, b"", &[(LABEL, 4, 300)]);
         page.resize(300, 0xFF);
         page.extend(b"far\0 away");
-        let read = read_section(order, &page, 0).unwrap();
-        assert_eq!((read.places(), read.text_box().label.as_deref()), ([168, 168, 304], Some("far")));
-        decide(&page, 0, |data| read_section(order, data, 0));
+        let read = read_body(order, Kind::Txt1, &page, 8).unwrap();
+        assert_eq!((read.places(), read.text_box().label.as_deref()), ([168, 0, 304], Some("far")));
+        decide(&page, 0, |data| read_body(order, Kind::Txt1, data, 8));
     }
 }
 

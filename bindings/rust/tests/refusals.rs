@@ -51,6 +51,9 @@ fn reads_that_are_refused() {
     says(read(Kind::Txt1, &data, 8), (7, 168, 3), "the label at 168 is ill-formed UTF-8");
     let refusal = Buffer::new().read_section(Little, b"ali1\x09\0\0\0\0\0\0\0", 0).map(|_| ()).unwrap_err();
     says(refusal, (8, 4, 9), "the section size 9 at 4 is below 8, no multiple of 4, or passes the buffer");
+    let behind = [b"ali1\x08\0\0\0", &[0; 88][..]].concat();
+    let refusal = Buffer::new().read_section(Little, &behind, 0).map(|_| ()).unwrap_err();
+    says(refusal, (19, 96, 8), "the pane looks as far as 96, past the end of its section at 8");
 }
 
 #[test]
@@ -134,6 +137,7 @@ fn a_refused_section_tells_its_place() {
 
 #[test]
 fn other_numbers_are_no_refusals() {
-    assert_eq!(Refusal::of(0, 0, 0), None);
-    assert_eq!(Refusal::of(17, 0, 0), None);
+    for number in [0, 17, 18, 20, u64::MAX] {
+        assert_eq!(Refusal::of(number, 0, 0), None);
+    }
 }

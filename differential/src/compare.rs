@@ -16,7 +16,7 @@ use std::borrow::Cow;
 
 const BYTE: u8 = 0xA5;
 
-/// Of one pane in so many nnbfl judges the reach. A prime, so that no generator keeps in step with it.
+/// Of one pane in so many nnbfl judges the reach, and of one in so many that are refused by 19. A prime, so that no generator keeps in step with it.
 const JUDGED: u64 = 61;
 
 fn hex(bytes: &[u8]) -> String {
@@ -49,8 +49,9 @@ pub struct Comparison {
     expected: Lent,
     found: Lent,
     whole: Whole,
-    /// How many panes were read.
+    /// How many panes were read, and how many sections were refused by 19.
     panes: u64,
+    refused_by_19: u64,
     buffer: Buffer,
     out: Vec<u8>,
     /// What nnbfl's writes make of the output, and its mirror in a big-endian run.
@@ -71,6 +72,7 @@ impl Comparison {
             found: Lent::new(),
             whole: Whole::default(),
             panes: 0,
+            refused_by_19: 0,
             buffer: Buffer::new(),
             out: Vec::new(),
             model: Vec::new(),
@@ -92,7 +94,7 @@ impl Comparison {
         let order = self.order;
         let call = |lists: &mut ReadLists, words: &mut [u64], answer: &mut [u64]| calls::read_body(order, kind, &given, place, lists, words, answer);
         let case = Case { generator: self.generator, call: "read body", kind };
-        self.read(case, expected, lengths, call, || format!("kind {kind}, place {place}, {}", hex(&given)));
+        self.read(case, expected, lengths, None, call, || format!("kind {kind}, place {place}, {}", hex(&given)));
         if expected.0 == PANE {
             self.pane(case, data, &given, place, &expected);
         }
@@ -126,11 +128,30 @@ impl Comparison {
         let call = |lists: &mut ReadLists, words: &mut [u64], answer: &mut [u64]| calls::read_section(order, given, place, lists, words, answer);
         let kind = data.get(place..).and_then(|s| LETTERS.iter().position(|l| s.starts_with(&l[..]))).unwrap_or(5) as u64;
         let case = Case { generator: self.generator, call: "read section", kind };
-        self.read(case, expected, lengths, call, || format!("place {place}, {}", hex(given)));
-        if expected.0 == PANE {
-            self.pane(case, data, given, place + 8, &expected);
+        let past = if self.fault.is_some() { oracle::past(data, place) } else { None };
+        self.read(case, expected, lengths, past, call, || format!("place {place}, {}", hex(given)));
+        match expected {
+            (PANE, [_, end, reach]) => {
+                self.tally.at_end(case, reach, end);
+                self.pane(case, data, given, place + 8, &expected);
+            }
+            (REFUSED, [19, reach, end]) => {
+                self.tally.at_end(case, reach, end);
+                self.past(case, data, place + 8, &expected);
+            }
+            _ => {}
         }
         expected
+    }
+
+    // What else is tried of a section whose pane reads past its end: a body read takes it, and nnbfl judges its reach.
+    fn past(&mut self, case: Case, data: &[u8], body: usize, expected: &Outcome) {
+        let (code, [_, _, reach]) = self.body(case.kind, data, body);
+        self.claim("body takes it", case.kind, (code, reach) == (PANE, expected.1[1]), || hex(data));
+        self.refused_by_19 += 1;
+        if self.refused_by_19 % JUDGED == 0 {
+            self.judge(Case { call: "refused by 19", ..case }, data, body, expected, reach as usize);
+        }
     }
 
     // The bytes in the order of the run; none, and counted, where they have no mirror.
@@ -174,6 +195,7 @@ impl Comparison {
         case: Case,
         expected: Outcome,
         lengths: Lengths,
+        past: Option<Outcome>,
         call: impl Fn(&mut ReadLists, &mut [u64], &mut [u64]) -> u64,
         input: impl Fn() -> String,
     ) {
@@ -189,7 +211,7 @@ impl Comparison {
         };
         let mut answer = [WORD; ANSWER_WORDS];
         let mut code = call(&mut lists, words, &mut answer);
-        self.fault.apply(Left { words, quads, units, lines, frames, ..Left::answer(&mut code, &mut answer) });
+        self.fault.apply(Left { words, quads, units, lines, frames, past, ..Left::answer(&mut code, &mut answer) });
         if (code, answer) != expected || self.found != self.expected {
             let what = self.expected.differences(&self.found);
             self.tally.differs(case, &expected, &(code, answer), &what, &input());
@@ -208,13 +230,13 @@ impl Comparison {
         }
         self.panes += 1;
         if self.panes % JUDGED == 0 {
-            self.judge(case, data, body, expected);
+            self.judge(case, data, body, expected, expected.1[2] as usize);
         }
     }
 
     // The reach by nnbfl itself: it reads the body in a buffer that goes to the reach and to every place that is sought, and in no shorter one.
-    fn judge(&mut self, case: Case, data: &[u8], body: usize, expected: &Outcome) {
-        let needed = reach::looked(case.kind, data, body).sought.max(expected.1[2] as usize);
+    fn judge(&mut self, case: Case, data: &[u8], body: usize, expected: &Outcome, reach: usize) {
+        let needed = reach::looked(case.kind, data, body).sought.max(reach);
         let shortest = reach::shortest(case.kind, data, body);
         if shortest != needed {
             let what = format!("nnbfl reads the body in the first {shortest} bytes and in no fewer, where {needed} are needed");

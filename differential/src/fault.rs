@@ -1,4 +1,5 @@
 //! Faults put in on purpose between the library and the comparison, to see that it reports them.
+use crate::oracle::{refused, Outcome};
 use crate::whole::*;
 use bidlomeqa::layout::*;
 
@@ -18,13 +19,15 @@ pub struct Left<'a> {
     pub kind: u64,
     pub section: bool,
     pub body: usize,
+    /// What 19 would tell of the section that was read, if it were looked for before 7.
+    pub past: Option<Outcome>,
 }
 
 impl<'a> Left<'a> {
     /// A call that left nothing but its answer.
     pub fn answer(code: &'a mut u64, answer: &'a mut [u64; ANSWER_WORDS]) -> Self {
         let (words, quads, units, lines, frames) = (&mut [], &mut [], &mut [], &mut [], &mut []);
-        Self { code, answer, words, quads, units, lines, frames, out: &mut [], before: &[], kind: 0, section: false, body: 0 }
+        Self { code, answer, words, quads, units, lines, frames, out: &mut [], before: &[], kind: 0, section: false, body: 0, past: None }
     }
 }
 
@@ -32,7 +35,7 @@ impl<'a> Left<'a> {
 type Change = fn(&mut Left) -> bool;
 
 /// The faults, by name.
-pub const FAULTS: [(&str, Change); 37] = [
+pub const FAULTS: [(&str, Change); 45] = [
     ("swapped-field", |l| pane(l) && swap(l.words, TRANSLATION, TRANSLATION + 1)),
     ("swapped-sizes", |l| pane(l) && swap(l.words, SCALE, SIZE)),
     ("swapped-colors", |l| kind(l, PIC1) && swap(l.words, PICTURE_COLORS + 4, PICTURE_COLORS + 8)),
@@ -58,6 +61,14 @@ pub const FAULTS: [(&str, Change); 37] = [
     ("changed-figure-a", |l| *l.code == REFUSED && add(&mut l.answer[1])),
     ("changed-figure-b", |l| *l.code == REFUSED && add(&mut l.answer[2])),
     ("refused-though-read", |l| *l.code == PANE && set(l.code, REFUSED)),
+    ("19-where-it-just-keeps", |l| pane(l) && l.answer[1] == l.answer[2] && given(l, refused(19, l.answer[2] as usize, l.answer[1] as usize))),
+    ("19-with-its-figures-exchanged", |l| nineteen(l) && swap(l.answer, 1, 2)),
+    ("19-before-7", |l| *l.code == REFUSED && l.answer[0] == 7 && l.past.is_some_and(|no| given(l, no))),
+    ("19-not-made", |l| nineteen(l) && given(l, (PANE, [l.answer[2], l.answer[2], l.answer[1]]))),
+    ("19-of-a-body", |l| body(l) && l.answer[0] < l.answer[2] && given(l, refused(19, l.answer[2] as usize, l.answer[0] as usize))),
+    ("filled-before-19", |l| nineteen(l) && add16(l.units, 0)),
+    ("quads-filled-before-19", |l| nineteen(l) && add32(l.quads, 7)),
+    ("record-before-19", |l| nineteen(l) && add(&mut l.words[KIND])),
     ("quad-changed", |l| kind(l, WND1) && l.words[CONTENT_QUADS] > 0 && add32(l.quads, 7)),
     ("lines-interleaved", |l| kind(l, TXT1) && l.words[LINES_COUNT] > 1 && swap(l.lines, 1, 2)),
     ("unit-changed", |l| kind(l, TXT1) && l.words[TEXT_LENGTH] > 3 && l.words[TEXT_PRESENT] == 1 && add16(l.units, 1)),
@@ -133,6 +144,21 @@ fn swapped<T: PartialEq + Copy>(list: &mut [T], at: usize, turned: fn(T) -> T) -
 
 fn pane(l: &Left) -> bool {
     *l.code == PANE
+}
+
+// A pane that a body call read: it tells no next section.
+fn body(l: &Left) -> bool {
+    pane(l) && l.answer[1] == 0
+}
+
+fn nineteen(l: &Left) -> bool {
+    *l.code == REFUSED && l.answer[0] == 19
+}
+
+// Another answer in the place of this one.
+fn given(l: &mut Left, (code, answer): Outcome) -> bool {
+    (*l.code, *l.answer) = (code, answer);
+    true
 }
 
 fn kind(l: &Left, kind: u64) -> bool {
@@ -221,6 +247,11 @@ impl Fault {
 
     fn of(change: impl Fn(&mut Left) -> bool + 'static, every: u64) -> Self {
         Self { change: Some(Box::new(change)), every, calls: 0, made: 0 }
+    }
+
+    /// Whether there is one.
+    pub fn is_some(&self) -> bool {
+        self.change.is_some()
     }
 
     /// The fault of this name, if a run in the order is tried with it.

@@ -1,7 +1,8 @@
 //! Big-endian bytes from little-endian ones: every number of two or four bytes turned the other way round, as Note 6 has it.
 //!
 //! Letters, strings, colours and single bytes stay as they are. Which bytes are numbers is taken from document 01's layouts, in the order in which a
-//! read goes through them. Where that read stops the rest stays as it is. Bytes have no mirror where two parts share a byte and want it different.
+//! read goes through them. Where that read stops the rest stays as it is: the sections after one whose pane reads past its end, which refusal 19 stops, stay too.
+//! Bytes have no mirror where two parts share a byte and want it different.
 use crate::oracle::LIMIT;
 use crate::whole::*;
 
@@ -35,6 +36,8 @@ pub fn strip(data: &[u8]) -> Option<Vec<u8>> {
 struct Walk<'a> {
     data: &'a [u8],
     at: usize,
+    // The first place past all bytes that the section's read went through.
+    reach: usize,
     turned: Vec<u8>,
     settled: Vec<bool>,
     torn: bool,
@@ -42,7 +45,7 @@ struct Walk<'a> {
 
 impl<'a> Walk<'a> {
     fn new(data: &'a [u8]) -> Self {
-        Self { data, at: 0, turned: data.to_vec(), settled: vec![false; data.len()], torn: false }
+        Self { data, at: 0, reach: 0, turned: data.to_vec(), settled: vec![false; data.len()], torn: false }
     }
 
     fn turned(self) -> Option<Vec<u8>> {
@@ -69,6 +72,7 @@ impl<'a> Walk<'a> {
             number = 256 * number + usize::from(*byte);
         }
         self.at += width;
+        self.reach = self.reach.max(self.at);
         Some(number)
     }
 
@@ -81,12 +85,13 @@ impl<'a> Walk<'a> {
         self.numbers(count, 1)
     }
 
-    // Gives the next section's place.
+    // Gives the next section's place, where the pane keeps to its section.
     fn section(&mut self, place: usize) -> Option<usize> {
         if self.data.len() > LIMIT || place % 4 != 0 {
             return None;
         }
         self.seek(place)?;
+        self.reach = place;
         self.bytes(4)?;
         let size = self.number(4)?;
         if size < 8 || size % 4 != 0 || size > self.data.len() - place {
@@ -94,6 +99,9 @@ impl<'a> Walk<'a> {
         }
         if let Some(kind) = LETTERS.iter().position(|l| self.data[place..].starts_with(&l[..])) {
             self.body(kind as u64)?;
+            if self.reach > place + size {
+                return None;
+            }
         }
         Some(place + size)
     }

@@ -2,7 +2,8 @@
 //!
 //! nnbfl decides every field, list, place and byte, and refusals 4 and 5. It has no word for the others, which are taken from document 01's table:
 //! 1, 2, 3 and 8 before nnbfl is asked, 6 where it would read a per-character transform, 7 where it took a string lossily, 9 to 16 for records to write.
-//! Nor has it a word for the reach, which `reach` works out.
+//! Nor has it a word for the reach, which `reach` works out, nor for 19 of document 02's Note 4: a section read whose reach is past the section's end. So nnbfl is
+//! the judge of a section read where the reach keeps to the section; a body read has no section to keep to.
 use crate::panes::AnyPane;
 use crate::reach;
 use crate::whole::*;
@@ -86,13 +87,29 @@ fn ill_formed(kind: u64, data: &[u8], body: usize) -> Option<Outcome> {
     bad(until_nul(label, data.len())).then(|| refused(7, label, 3))
 }
 
+// Refusal 19: the reach is above the section's end. A body read has no section.
+fn past_section(reach: usize, end: Option<usize>) -> Option<Outcome> {
+    end.filter(|end| reach > *end).map(|end| refused(19, reach, end))
+}
+
+/// What refusal 19 would tell of the section at `place`, if it were looked for before 7: none where nnbfl does not read the body or it keeps to the section.
+pub fn past(data: &[u8], place: usize) -> Option<Outcome> {
+    let kind = LETTERS.iter().position(|l| data.get(place..).is_some_and(|s| s.starts_with(&l[..])))? as u64;
+    let body = place + 8;
+    if data.len() < body || kind == TXT1 && transform(data, body).is_some() {
+        return None;
+    }
+    AnyPane::parse(kind, &mut cursor(data, body)).ok()?;
+    past_section(reach::looked(kind, data, body).reach, Some(place + number32(data, place + 4)))
+}
+
 /// Where a text box's label stands.
 fn label_place(kind: u64, data: &[u8], body: usize) -> Option<usize> {
     (kind == TXT1 && number32(data, body + 120) != 0).then(|| body - 8 + number32(data, body + 120))
 }
 
-/// nnbfl's answer to a body, with `next` as the answer's second word; a pane goes to `to`.
-fn parsed(kind: u64, data: &[u8], body: usize, next: usize, to: &mut Whole) -> Outcome {
+/// nnbfl's answer to a body; a pane goes to `to`. A section read tells where the section ends: the pane must keep to it, and it is the answer's second word.
+fn parsed(kind: u64, data: &[u8], body: usize, next: Option<usize>, to: &mut Whole) -> Outcome {
     if kind == TXT1 {
         if let Some(offset) = transform(data, body) {
             return refused(6, offset, 0);
@@ -104,12 +121,16 @@ fn parsed(kind: u64, data: &[u8], body: usize, next: usize, to: &mut Whole) -> O
             if let Some(no) = ill_formed(kind, data, body) {
                 return no;
             }
+            let reach = reach::looked(kind, data, body).reach;
+            if let Some(no) = past_section(reach, next) {
+                return no;
+            }
             let label = label_place(kind, data, body).unwrap_or(0);
             pane.flatten(label, to);
             if kind == TXT1 && to.is(LABEL_PRESENT) {
                 assert_eq!(&data[label..label + to.label.len()], &to.label[..]);
             }
-            (PANE, [c.pos as u64, next as u64, reach::looked(kind, data, body).reach as u64])
+            (PANE, [c.pos as u64, next.unwrap_or(0) as u64, reach as u64])
         }
         Err(FormatError::UnexpectedEof { offset, requested_bytes }) => refused(4, offset, requested_bytes),
         Err(FormatError::MalformedSection { offset, .. }) => refused(5, offset, 0),
@@ -128,7 +149,7 @@ pub fn read_body(kind: u64, data: &[u8], place: usize, lengths: [usize; 4], to: 
     if let Some(no) = short_list(takes(kind), lengths) {
         return no;
     }
-    parsed(kind, data, place, 0, to)
+    parsed(kind, data, place, None, to)
 }
 
 /// What `bidlomeqa_read_section` must answer; a pane goes to `to`.
@@ -156,7 +177,7 @@ pub fn read_section(data: &[u8], place: usize, lengths: [usize; 4], to: &mut Who
         return refused(8, place + 4, size);
     }
     match LETTERS.iter().position(|l| data[place..].starts_with(&l[..])) {
-        Some(kind) => parsed(kind as u64, data, place + 8, place + size, to),
+        Some(kind) => parsed(kind as u64, data, place + 8, Some(place + size), to),
         None => (PASSED, [(place + size) as u64, 0, 0]),
     }
 }

@@ -52,11 +52,16 @@ fn library_reads(kind: u64, data: &[u8], place: usize) -> String {
 }
 
 fn read_body(order: u64, kind: u64, data: &[u8], place: usize) -> (u64, [u64; ANSWER_WORDS], [u64; RECORD_WORDS]) {
+    with_lists(|lists, words, answer| calls::read_body(order, kind, data, place, lists, words, answer))
+}
+
+// A read with full lists: what it returns, its answer and its record.
+fn with_lists(call: impl Fn(&mut ReadLists, &mut [u64], &mut [u64]) -> u64) -> (u64, [u64; ANSWER_WORDS], [u64; RECORD_WORDS]) {
     let (mut quads, mut units) = (vec![0; FULL[0]], vec![0; FULL[1]]);
     let (mut lines, mut frames) = (vec![0; FULL[2]], vec![0; FULL[3]]);
     let mut lists = ReadLists { quads: &mut quads, units: &mut units, lines: &mut lines, frames: &mut frames };
     let (mut answer, mut words) = ([0; ANSWER_WORDS], [0; RECORD_WORDS]);
-    let code = calls::read_body(order, kind, data, place, &mut lists, &mut words, &mut answer);
+    let code = call(&mut lists, &mut words, &mut answer);
     (code, answer, words)
 }
 
@@ -307,9 +312,19 @@ fn big_endian() -> Row {
     )
 }
 
+// A pane that reads past its section: nnbfl's reads of bodies do not ask where the section ends.
+fn past_section() -> Row {
+    let data = [b"pan1\x08\0\0\0", &[0; 76][..]].concat();
+    let (code, answer, _) = with_lists(|lists, words, answer| calls::read_section(LITTLE, &data, 0, lists, words, answer));
+    let library = format!("section {}; body {}", answered(code, answer), library_reads(PAN1, &data, 8));
+    let known = ["read, ends at 84", "section refused by 19: 84, 8; body read, ends at 84"];
+    row("a base pane in a section of size 8, its 76 bytes behind it", nnbfl_reads(PAN1, &data, 8, nothing), library, known)
+}
+
 /// Every difference that can be run.
 pub fn rows() -> Vec<Row> {
     let mut rows = reading();
+    rows.push(past_section());
     rows.push(big_endian());
     rows.extend(names());
     rows.push(reserved());

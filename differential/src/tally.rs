@@ -16,8 +16,10 @@ pub struct Tally {
     counts: HashMap<(Case, u64, u64), u64>,
     /// By generator: bytes that a big-endian run could not compare.
     unmirrored: BTreeMap<&'static str, u64>,
-    /// By call and kind: panes whose reach nnbfl judged.
+    /// By call and kind: panes whose reach nnbfl judged, and sections that are refused by 19 likewise.
     reaches: BTreeMap<(&'static str, u64), u64>,
+    /// By where the reach of a section's pane lies and kind: how many are at the section's end or near it.
+    ends: BTreeMap<(&'static str, u64), u64>,
     pub cases: u64,
     /// Claims about several cases together, which are no cases of their own.
     pub claims: u64,
@@ -26,6 +28,10 @@ pub struct Tally {
     pub quiet: bool,
     start: Instant,
 }
+
+/// Where the reach of a pane lies, by how far it is past its section's end: the last bytes of the section before its end, just at the end, right behind it. Sections
+/// end at multiples of 4, so those whose size is the least that holds the pane are the first two.
+pub const ENDS: [(&str, i64, i64); 3] = [("1 to 3 before", -3, -1), ("at the end", 0, 0), ("1 to 4 past", 1, 4)];
 
 const KINDS: [&str; 6] = ["pan1", "pic1", "txt1", "wnd1", "ali1", "-"];
 
@@ -58,6 +64,7 @@ impl Tally {
             counts: HashMap::new(),
             unmirrored: BTreeMap::new(),
             reaches: BTreeMap::new(),
+            ends: BTreeMap::new(),
             cases: 0,
             claims: 0,
             differences: 0,
@@ -92,6 +99,19 @@ impl Tally {
     /// Counts a case whose reach nnbfl judged.
     pub fn judged_reach(&mut self, case: Case) {
         *self.reaches.entry((case.call, case.kind)).or_insert(0) += 1;
+    }
+
+    /// Counts a section whose pane looks about as far as the section goes.
+    pub fn at_end(&mut self, case: Case, reach: u64, end: u64) {
+        let near = ENDS.iter().find(|(_, from, to)| (*from..=*to).contains(&(reach as i64 - end as i64)));
+        if let Some((name, ..)) = near {
+            *self.ends.entry((name, case.kind)).or_insert(0) += 1;
+        }
+    }
+
+    /// How many sections of the kind have their pane's reach there (a name of `ENDS`).
+    pub fn ends(&self, name: &'static str, kind: u64) -> u64 {
+        self.ends.get(&(name, kind)).copied().unwrap_or(0)
     }
 
     /// How many reaches nnbfl judged of a call's reads of the kind.
@@ -142,17 +162,26 @@ impl Tally {
             print_row(call, &outcome_name(code, number), |kind| cells.get(&(call, code, number, kind)).copied());
         }
         self.report_reaches();
-        println!("\n{} cases by nnbfl's own answer, the others by document 01's table", self.judged());
+        self.report_ends();
+        println!("\n{} cases by nnbfl's own answer, the others by document 01's table and Note 4 of document 02", self.judged());
         println!("{} claims about several calls, as that a record came back as it was written or a strip ended where it must", self.claims);
         println!("{} cases in {:.0} s, {} differences", self.cases, self.seconds(), self.differences);
     }
 
     fn report_reaches(&self) {
         let judged: u64 = self.reaches.values().sum();
-        println!("\nof these, panes whose reach nnbfl judged, by the shortest buffer in which it reads the body: {judged}");
+        println!("\nof these, those whose reach nnbfl judged, by the shortest buffer in which it reads the body: {judged}");
         print_kinds();
-        for call in ["read body", "read section"] {
+        for call in ["read body", "read section", "refused by 19"] {
             print_row(call, "", |kind| self.reaches.get(&(call, kind)).copied());
+        }
+    }
+
+    fn report_ends(&self) {
+        println!("\nof these, sections whose pane looks about as far as the section's end (those past it are refused by 19)");
+        print_kinds();
+        for (name, ..) in ENDS {
+            print_row(name, "", |kind| self.ends.get(&(name, kind)).copied());
         }
     }
 

@@ -2,7 +2,7 @@
 //!
 //! A line of stdin is the hexadecimal digits of one section at place 0. A line of stdout is `no NUMBER a b`, `pass N`, `end`, or `pane R N HEX`: the place after
 //! the body, the next section, and the section written back, which is what nnbfl writes of the pane that it read. Refusals 6, 7 and 8, `pass` and
-//! `end` are document 01's, which nnbfl has no word for; the rest is nnbfl's.
+//! `end` are document 01's, and refusal 19 document 02's, which nnbfl has no word for; the rest is nnbfl's.
 use bidlomeqa::layout::*;
 use differential::generate::bodies::{self, put16, put32};
 use differential::generate::{edges, reads};

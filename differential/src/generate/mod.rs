@@ -14,7 +14,7 @@ use bidlomeqa::layout::BIG;
 pub type Generator = fn(&mut Comparison, &mut Random);
 
 /// Those that go through a class of inputs whole.
-pub const SYSTEMATIC: [(&str, Generator); 22] = [
+pub const SYSTEMATIC: [(&str, Generator); 24] = [
     ("read: cut at every length", reads::cut),
     ("read: every byte value", reads::bytes),
     ("read: all text flags", reads::flags),
@@ -26,6 +26,8 @@ pub const SYSTEMATIC: [(&str, Generator); 22] = [
     ("read: short lists", reads::lists),
     ("read: places", reads::places),
     ("read: section headers", strips::headers),
+    ("read: sections of every size", strips::every_section),
+    ("read: sections that just hold", strips::just_kept),
     ("read: 16 MiB buffers", reads::large),
     ("write: every byte value", outputs::bytes),
     ("write: all text flags", outputs::flags),
@@ -40,12 +42,13 @@ pub const SYSTEMATIC: [(&str, Generator); 22] = [
 ];
 
 /// Those that make one random step.
-pub const RANDOM: [(&str, Generator); 6] = [
+pub const RANDOM: [(&str, Generator); 7] = [
     ("read: random bodies", reads::random),
     ("read: random offsets", reads::random_offsets),
     ("write: random records", outputs::random),
     ("strips: random lists", strips::random),
     ("strips: random sections", strips::sections),
+    ("strips: random sizes", strips::sizes),
     ("label and caption", strips::parts),
 ];
 

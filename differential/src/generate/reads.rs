@@ -83,8 +83,8 @@ pub fn floats(c: &mut Comparison, r: &mut Random) {
     }
 }
 
-// Where the offsets stand in a body.
-fn offset_fields(kind: u64) -> &'static [usize] {
+/// Where the offsets stand in a body.
+pub fn offset_fields(kind: u64) -> &'static [usize] {
     match kind {
         TXT1 => &[92, 120, 152, 156],
         WND1 => &[96, 100, 156, 160],
@@ -254,20 +254,25 @@ pub fn offset(r: &mut Random, length: usize) -> u32 {
     }
 }
 
+/// Puts the parts of a text box or a window anywhere, over one another.
+pub fn scatter(r: &mut Random, kind: u64, data: &mut [u8], place: usize) {
+    for field in offset_fields(kind) {
+        if r.once_in(2) && place + field + 4 <= data.len() {
+            let to = offset(r, data.len() + 8 - place);
+            put32(data, place + field, to);
+        }
+    }
+    if kind == TXT1 && r.once_in(2) {
+        put32(data, place + 156, 0);
+    }
+}
+
 /// A text box or a window whose parts lie anywhere, over one another.
 pub fn random_offsets(c: &mut Comparison, r: &mut Random) {
     let kind = r.pick(&[TXT1, WND1]);
     let place = 8 + r.below(12);
     let after = r.below(100);
     let mut data = bodies::body(r, kind, place, after);
-    for field in offset_fields(kind) {
-        if r.once_in(2) && place + field + 4 <= data.len() {
-            let to = offset(r, data.len() + 8 - place);
-            put32(&mut data, place + field, to);
-        }
-    }
-    if kind == TXT1 && r.once_in(2) {
-        put32(&mut data, place + 156, 0);
-    }
+    scatter(r, kind, &mut data, place);
     c.body(kind, &data, place);
 }

@@ -1,7 +1,8 @@
-//! Sections in a row, headers, label and caption.
+//! Sections in a row, headers, sections that their panes keep to or not, label and caption.
 use super::bodies::{self, put32};
-use super::records;
+use super::{reads, records};
 use crate::compare::Comparison;
+use crate::oracle;
 use crate::random::Random;
 use crate::whole::*;
 use bidlomeqa::layout::*;
@@ -28,6 +29,81 @@ pub fn headers(c: &mut Comparison, r: &mut Random) {
             for n in place..=later.len() {
                 c.section(&later[..n], place);
             }
+        }
+    }
+}
+
+// A header before the body at `place` + 8.
+fn head(data: &mut [u8], place: usize, kind: u64, size: usize) {
+    data[place..place + 4].copy_from_slice(LETTERS[kind as usize]);
+    put32(data, place + 4, size as u32);
+}
+
+// How many bytes of its section the pane looks at, if it is read: the section that just holds it has so many, rounded up to a multiple of 4.
+fn looked(kind: u64, data: &[u8], place: usize) -> Option<usize> {
+    let read = oracle::read_body(kind, data, place + 8, FULL, &mut Whole::default());
+    (read.0 == PANE).then(|| read.1[2] as usize - place)
+}
+
+// The body at `place` + 8 in a section of every size that its bytes have room for.
+fn every_size(c: &mut Comparison, kind: u64, data: &[u8], place: usize) {
+    let mut data = data.to_vec();
+    for size in (8..=data.len() - place).step_by(4) {
+        head(&mut data, place, kind, size);
+        c.section(&data, place);
+    }
+}
+
+// The body at `place` + 8 in sections that hold it just so, or not quite.
+fn about(c: &mut Comparison, kind: u64, data: &mut [u8], place: usize) {
+    let Some(needs) = looked(kind, data, place) else { return };
+    let just = needs.next_multiple_of(4);
+    for size in [just - 4, just, just + 4] {
+        head(data, place, kind, size);
+        c.section(data, place);
+    }
+}
+
+/// Bodies of each kind in sections of every size, and with a name that is ill-formed: as an editor lays them out, and with other bytes behind them.
+pub fn every_section(c: &mut Comparison, r: &mut Random) {
+    for kind in 0..5 {
+        for place in [0, 4, 40] {
+            let mut template = bodies::template(r, kind, place + 8);
+            template.resize(template.len() + 12, 0x41);
+            every_size(c, kind, &template, place);
+            template[place + 12] = 0xFF;
+            every_size(c, kind, &template, place);
+        }
+        for _ in 0..20 {
+            let body = bodies::body(r, kind, 8, 16);
+            if body.len() < 2000 {
+                every_size(c, kind, &body, 0);
+            }
+        }
+    }
+}
+
+/// Every offset of a text box and a window over every place of the buffer, and every count of a picture, a window and a line table, in sections that just hold what is read, or not quite.
+pub fn just_kept(c: &mut Comparison, r: &mut Random) {
+    for kind in [TXT1, WND1] {
+        for place in [0, 8] {
+            for field in reads::offset_fields(kind) {
+                let mut data = bodies::template(r, kind, place + 8);
+                let near = 0..(data.len() - place) as u32 + 8;
+                data.resize(data.len() + 40, 0);
+                for offset in near {
+                    put32(&mut data, place + 8 + field, offset);
+                    about(c, kind, &mut data, place);
+                }
+            }
+        }
+    }
+    for (kind, at) in [(PIC1, 94), (PIC1, 95), (WND1, 92), (WND1, 122), (TXT1, 168), (TXT1, 78)] {
+        let mut data = bodies::template(r, kind, 8);
+        data.resize(9000, 0);
+        for count in 0..=255 {
+            data[8 + at] = count;
+            about(c, kind, &mut data, 0);
         }
     }
 }
@@ -117,6 +193,24 @@ pub fn sections(c: &mut Comparison, r: &mut Random) {
     c.section(&data, place);
 }
 
+/// A pane in a section that just holds it or not quite, or of any size up to that; its parts sometimes anywhere, a name sometimes ill-formed.
+pub fn sizes(c: &mut Comparison, r: &mut Random) {
+    let (kind, place, after) = (r.below(5) as u64, 4 * r.below(4), r.below(60));
+    let body = place + 8;
+    let mut data = bodies::body(r, kind, body, after);
+    if r.once_in(2) {
+        reads::scatter(r, kind, &mut data, body);
+    }
+    if r.once_in(8) {
+        data[body + r.pick(&[4, 28])] = 0xFF;
+    }
+    let just = looked(kind, &data, place).unwrap_or(8 + FIXED[kind as usize]).next_multiple_of(4);
+    let size = if r.once_in(8) { 8 + 4 * r.below(just / 4) } else { just + 4 * r.below(4) - 8 };
+    data.resize(data.len().max(place + size), 0x41);
+    head(&mut data, place, kind, size);
+    c.section(&data, place);
+}
+
 // A section of another kind, with a body of any bytes.
 fn other(r: &mut Random) -> Vec<u8> {
     let mut section = vec![0; 8 + 4 * r.below(12)];
@@ -127,12 +221,16 @@ fn other(r: &mut Random) -> Vec<u8> {
     section
 }
 
-/// A page of sections of all kinds and of others, sometimes cut, read from its beginning as far as it goes.
+/// A page of sections of all kinds and of others, sometimes cut, sometimes with a size that is too small, read from its beginning as far as it goes.
 pub fn page(c: &mut Comparison, r: &mut Random) {
     let mut page = Vec::new();
     for _ in 0..1 + r.below(8) {
-        let (kind, after) = (r.below(7) as u64, r.below(30));
+        let (kind, after, at) = (r.below(7) as u64, r.below(30), page.len());
         page.extend(if kind < 5 { bodies::section(kind, bodies::body(r, kind, 8, after)) } else { other(r) });
+        if r.once_in(16) {
+            let size = page.len() - at;
+            put32(&mut page, at + 4, size.saturating_sub(4 + 4 * r.below(10)).max(8) as u32);
+        }
     }
     if r.once_in(4) {
         page.truncate(r.below(page.len() + 1));

@@ -2,6 +2,10 @@
 //!
 //! `bench [--seed N] [--seconds S] [--panes N] [--kind N] [--only NAME]`: S seconds are given to each figure; `--kind` makes pages of one kind; `--only` makes
 //! 100 calls of one contender and times nothing, for counting instructions.
+//!
+//! `bench --growth [--seed N] [--seconds S]`: how reading with the library grows with the strip, and the strips that take longest (`growth`).
+mod growth;
+
 use bidlomeqa::calls::{self, ReadLists};
 use bidlomeqa::layout::*;
 use bidlomeqa::{Buffer, ByteOrder, Record, Section};
@@ -251,6 +255,9 @@ fn main() {
     let kind = value("--kind").map(|n| n.parse().expect("a number"));
     let only = value("--only").map(String::as_str);
     println!("seed {seed}; the least time of many rounds in {seconds} s each; one thread");
+    if words.iter().any(|w| w == "--growth") {
+        return growth::print(seed, seconds);
+    }
     println!("The lent lists, records and outputs are neither allocated nor cleared between calls; nnbfl allocates what it hands back, and a new writer a page.");
     let one = value("--panes").map(|n| vec![n.parse().expect("a number")]);
     for count in one.unwrap_or(vec![40, 600, 6000]) {

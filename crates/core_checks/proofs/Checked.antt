@@ -95,7 +95,7 @@ module _ (p : Place) (x : Extent) where
   pub reach-refused : (why : Refusal) → p ≡ Refused why → Refused why ≡ reachChecked p x
   reach-refused why e = sym (reach-stays why x) ∙ ap (λ (q : Place). reachChecked q x) (sym e)
 
--- the last check, as the code makes it
+-- 16, as the code makes it
 pub end-here : (p : Place) (end n : ℕ) (c : Cursor) → p ≡ At c → stopIf (At c) (ltb n end) (OutputEnd end n) ≡ endChecked p end n
 unfolding endChecked
 end-here p end n c e = rw e
@@ -173,7 +173,7 @@ pub not-wrote : (o new : List ℕ) (end : ℕ) (p : Place) (why : Refusal) → p
 unfolding writtenOf unlessRefused
 not-wrote o new end p why h = rw h (refl, refl)
 
--- ---- what is known by the case is known by document 01's number
+-- ---- what is known by the case is known by its number
 
 pub read-numbered : {P : Type 0} {r w : P} → r ≡ w → (answer : P → Parsed) → parsedByNumber (answer r) ≡ parsedByNumber (answer w)
 read-numbered e answer = ap (λ x. parsedByNumber (answer x)) e

@@ -49,7 +49,7 @@ countChecked p list width n = stopIf p (countBad width n) (ListLength list n)
 unfoldable pub endChecked : Place → ℕ → ℕ → Place
 endChecked p end n = stopIf p (ltb n end) (OutputEnd end n)
 
--- 19, of a body that is read in a section that ends so: the first place past all bytes that it read is past that end. In a buffer nothing is checked
+-- 19, of a body that is read in a section: the first place past all bytes that it read is past the section's end. In a buffer nothing is checked
 unfoldable pub reachChecked : Place → Extent → Place
 reachChecked p Buffer = p
 reachChecked (At c) (Section end) = stopIf (At c) (ltb end (c .reach)) (PastSection (c .reach) end)
@@ -72,7 +72,7 @@ unfoldable pub writtenOf : Place → ℕ → Written
 writtenOf (At c) end = Writtens.End end
 writtenOf (Refused why) end = Writtens.Refused why
 
--- ---- these answers by document 01's numbers
+-- ---- these answers by the papers' numbers
 
 -- the place after the body, and how far the read looked
 abbrev pub parsedByNumber : Parsed → ByNumber

@@ -45,7 +45,7 @@ unlessOther Other bad named = bad
 abbrev pub ofOrder : {A : Type 0} → ℕ → (Answer → A) → (ByteOrder → A) → A
 ofOrder n bad named = unlessOther (orderOf n) (bad (badOrder n)) named
 
--- an answer by document 01's numbers as words: what was accepted under its code, its values one after another; REFUSED with number and figures
+-- an answer by the papers' numbers as words: what was accepted under its code, its values one after another; REFUSED with number and figures
 abbrev pub numberedAnswer : ℕ → ByNumber → Answer
 numberedAnswer code (accepted values) = answer code (getD values 0 0) (getD values 1 0) (getD values 2 0)
 numberedAnswer code (refused number a b) = answer 4 number a b

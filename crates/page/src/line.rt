@@ -111,7 +111,7 @@ fn put_ill_formed(out: &mut [u8], p: usize, a: usize, b: usize) -> usize
 }
 
 // What is wrong and where, by a refusal's number and figures. A page is never too long, its places are multiples of 4 within it, and the lists
-// are full: 4 to 8 are left.
+// are full: 4 to 8 and 19 are left.
 fn put_sentence(out: &mut [u8], p: usize, number: usize, a: usize, b: usize) -> usize
     requires { ⌜ Room (now out) p 120 ⌝ }
     ensures { λ r. ⌜ Put (now (out .entry)) p (length (sentence number a b)) (sentence number a b) r (now (out .exit)) ⌝ }

@@ -3,7 +3,7 @@ use mathlib.Core.Path.{_≡_, refl, sym, ap, subst, _∙_}
 use Prim.Native.Nat.{ℕ, _+_, _-_, _%_, _≤_, _<_}
 use native.Mathlib.Omega.{arith}
 use mathlib.Core.Bool.{Bool, true, false, cond, _||_}
-use mathlib.Core.List.{List, _++_}
+use mathlib.Core.List.{List, [], _++_}
 use lib.ListN.{length, take, length-take}
 use lib.Dec.{lit≤, eqb, ltb}
 use borrow.Author.Tests.{ltb-false, le-ltb, ne-eqb}
@@ -26,7 +26,7 @@ use Rattle.strip_header.specs.declared.Header.{Header}
 use Rattle.strip_header.specs.declared.Section.{Section}
 use Rattle.strip_header.specs.declared.Section.the-variants as Sections
 use Rattle.strip_records.specs.Kinds.{kindOf}
-use Rattle.strip_records.specs.Whole.{Lists, Full}
+use Rattle.strip_records.specs.Whole.{Lists, Full, blankRecord}
 use Rattle.strip_records.specs.declared.kind.Kind.{Kind}
 use Rattle.strip_records.specs.declared.kind.Kind.the-variants.{Pan1, Pic1, Txt1, Wnd1, Ali1}
 use Rattle.strip_records.specs.declared.kind.KindFound.{KindFound}
@@ -262,6 +262,20 @@ end-not order s p l n e =
     let e₂ : readAt order s p .answer ≡ Sections.End = rw (ne-eqb p (length s) n) at e₁ in
     kind-no-end order (kindOf (h .letters)) s (h .then) (p + 8) (p + h .size) (or-given (h .then) _ Sections.End tt e₂ .1)
 
+-- a section that is passed is of no kind, and is passed in every buffer that has its header
+kind-passed : (order : ByteOrder) (k : KindFound) (s : List ℕ) (q : Place) (body next n : ℕ) → byKind order k s q body next .answer ≡ Sections.Passed n → k ≡ Other
+unfolding byKind readBody
+kind-passed order (Is kind) s q body next n e =
+    let b = bodyRead order kind s q body (Extents.Section next) in
+    absurd (body-not (b .answer) (b .«record») next .0 n e)
+kind-passed order Other s q body next n e = refl
+
+passed-as : (order : ByteOrder) (s : List ℕ) (p : ℕ) (l : Lists) (h : Header) → SectionOk (length s) p → Full l → eqb p (length s) ≡ false → headerTaken order s p ≡ h
+    → h .then ≡ At (start (p + 8)) → kindOf (h .letters) ≡ Other
+    → _≡_ {A = SectionSeen} (sectionSeen order p l s) (record { read = passedWith (p + h .size); lists = l; label = [] })
+unfolding readSection listsAfter orRefused unlessRefused readAt listsAt byKind listsByKind passedWith blankRecord
+passed-as order s p l h ok full more e then is = rw (start-good (length s) p l ok full, more, e, then, is)
+
 module _ (order : ByteOrder) (p : ℕ) (l : Lists) where
   abbrev IsPane : List ℕ → ℕ → ℕ → ℕ → Type 0
   IsPane s end next reach = sectionSeen order p l s .read .answer ≡ Sections.Pane end next reach
@@ -304,6 +318,21 @@ module _ (order : ByteOrder) (p : ℕ) (l : Lists) where
       → sectionSeen order p l (s ++ more) ≡ sectionSeen order p l s
   section-extends s more end next reach e small =
       section-needed s (s ++ more) end next reach e (agrees-longer p reach s more (section-bounds s end next reach e .within)) small
+
+  -- and the same of a section that is passed
+  pub passed-extends : (s more : List ℕ) (next : ℕ) → sectionSeen order p l s .read .answer ≡ Sections.Passed next → length (s ++ more) ≤ 16777216
+      → sectionSeen order p l (s ++ more) ≡ sectionSeen order p l s
+  unfolding Found
+  passed-extends s more next e small =
+      let h : Header = headerTaken order s p in
+      let t = headed order s p l (Sections.Passed next) tt e in
+      let g = header-seen order p 0 s s (agrees-self p 0 s) (t .ok .within) (t .then .cursor) (t .then .here) in
+      let a = agrees-longer p (p + 8) s more (g .room) in
+      let g′ = header-seen order p (p + 8) s (s ++ more) a (t .ok .within) (t .then .cursor) (t .then .here) in
+      let is = kind-passed order (kindOf (h .letters)) s (h .then) (p + 8) (p + h .size) next (t .rest) in
+      let ok : SectionOk (length (s ++ more)) p = record { most = small; within = omega (arith, g .room, a .long); whole = t .ok .whole } in
+      let on = ne-eqb p (length (s ++ more)) (λ z. omega (arith, g .room, a .long, z)) in
+      passed-as order (s ++ more) p l h ok (t .full) on (g′ .same (omega arith)) (g .ends) is ∙ sym (passed-as order s p l h (t .ok) (t .full) (t .more) refl (g .ends) is)
 
   -- AND NO LESS: of a buffer that is cut below its reach the read is refused, but for one that is cut right at P, which ends there
   section-cut-by : (s : List ℕ) (end next reach n : ℕ) → IsPane s end next reach → (n ≡ p → ⊥) → n < reach

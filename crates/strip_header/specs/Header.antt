@@ -37,7 +37,7 @@ headerTaken order s p =
       then = stopIf (size .then) (sizeBad (length s) p (size .value)) (SectionSize (p + 4) (size .value));
     }
 
--- what a section read answers, by document 01's numbers: nothing at the end; the next section of one that is passed; of a pane the place after the body, the next section and how far the read looked
+-- what a section read answers, by the papers' numbers: nothing at the end; the next section of one that is passed; of a pane the place after the body, the next section and how far the read looked
 abbrev pub sectionByNumber : Section → ByNumber
 sectionByNumber Sections.End = accepted []
 sectionByNumber (Sections.Passed next) = accepted (next ∷ [])

@@ -1,2 +1,2 @@
-// The body of a pane of any kind, read.
+// The body of a pane of any kind, measured or read.
 pub mod body;

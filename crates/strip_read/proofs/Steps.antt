@@ -27,7 +27,7 @@ use Rattle.strip_kinds.specs.declared.body.BodyRead.{BodyRead}
 use Rattle.strip_read.specs.declared.read.SectionRead.{SectionRead}
 use Rattle.strip_read.proofs.Cleared.{size-ok}
 
--- what is known by the case is known by document 01's number
+-- what is known by the case is known by its number
 pub numbered : {B : Type 0} {r w : SectionRead} → (r ≡ w) × B → (r ≡ w) × (B × (sectionByNumber (r .answer) ≡ sectionByNumber (w .answer)))
 numbered h = (h .0, (h .1, ap (λ (x : SectionRead). sectionByNumber (x .answer)) (h .0)))
 

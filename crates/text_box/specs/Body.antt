@@ -72,7 +72,7 @@ abbrev pub Reads : ByteOrder → List ℕ → Place → ℕ → Extent → List 
 Reads order s p body extent u₀ l₀ r u l =
     (r ≡ textBoxRead order s p body extent) × (u ≡ unitsAfter order s p body extent u₀) × (l ≡ linesAfter order s p body extent l₀)
 
--- THE BODY READ at B of s, in all of the buffer, begins with 1, 2, and 3 of lists of so many units and lines
+-- THE BODY READ at B of s begins with 1, 2, and 3 of lists of so many units and lines, and goes on so in all of the buffer
 unfoldable pub textBoxStart : ℕ → ℕ → ℕ → ℕ → Place
 textBoxStart n units lines body = listChecked (listChecked (bodyStart n body) 2 32767 units) 3 510 lines
 

@@ -14,7 +14,6 @@ use bidlomeqa::layout::*;
 use differential::oracle::LIMIT;
 use differential::random::Random;
 use std::hint::black_box;
-use std::time::Instant;
 
 fn put16(data: &mut [u8], at: usize, number: usize) {
     data[at..at + 2].copy_from_slice(&(number as u16).to_le_bytes());
@@ -174,15 +173,16 @@ fn refused(lengths: &[usize], seconds: f64) {
         let count = length / 2 / 168;
         let ns = least(seconds, || assert_eq!(read_section(black_box(&bytes), 0, &mut lent), (REFUSED, 19)));
         let sample: Vec<usize> = (0..count).step_by((count / 16).max(1)).collect();
-        let start = Instant::now();
-        for i in &sample {
-            assert_eq!(read_section(black_box(&bytes), 168 * i, &mut lent), (REFUSED, 19));
-        }
-        let mean = start.elapsed().as_secs_f64() / sample.len() as f64;
+        let of_sample = least(seconds, || {
+            for i in &sample {
+                assert_eq!(read_section(black_box(&bytes), 168 * i, &mut lent), (REFUSED, 19));
+            }
+        });
+        let mean = of_sample / sample.len() as f64;
         first += &format!("{:12.3}", ns / 1e6);
         boxes += &format!("{count:12}");
-        one += &format!("{:12.3}", mean * 1e3);
-        all += &format!("{:12.2}", mean * count as f64);
+        one += &format!("{:12.3}", mean / 1e6);
+        all += &format!("{:12.2}", mean / 1e9 * count as f64);
     }
     println!("  {:46}{first}", "a walk, to the first refusal: ms");
     println!("  {:46}{boxes}", "text boxes");

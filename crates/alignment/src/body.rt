@@ -14,7 +14,7 @@ use pane_checks::checks::{names_checked, reserve_checked, texts_checked};
 use pane_read::Pane;
 
 // A pane that was measured, and where the run stands then.
-#[derive(Drop)]
+#[derive(Clone, Copy)]
 pub struct AlignmentMeasured {
     pub base: Pane,
     pub own: AlignmentTaken,
@@ -22,7 +22,7 @@ pub struct AlignmentMeasured {
 }
 
 // What a body read gives: its answer, and the pane, blank where it was refused.
-#[derive(Drop)]
+#[derive(Clone, Copy)]
 pub struct AlignmentParsed {
     pub answer: Parsed,
     pub base: Pane,

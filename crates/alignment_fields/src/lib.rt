@@ -1,4 +1,5 @@
 // What an alignment pane has beyond the base, 12 bytes.
+#![tactic(auto)]
 ghost use Rattle.std.specs.Prelude.{◌≡◌};
 ghost use Rattle.core_read.specs.Bytes.{Room, Put};
 ghost use Rattle.core_read.specs.declared.cursor.Place.TheVariants.{At};
@@ -9,7 +10,7 @@ use core_read::cursor::{ByteOrder, Cursor, Place};
 use core_write::writer;
 use floats::Binary32;
 
-#[derive(Drop)]
+#[derive(Clone, Copy)]
 pub struct AlignmentPane {
     pub direction: u32,
     pub default_margin: Binary32,
@@ -17,7 +18,7 @@ pub struct AlignmentPane {
     pub is_vertical_alignment: bool,
 }
 
-#[derive(Drop)]
+#[derive(Clone, Copy)]
 pub struct AlignmentTaken {
     pub alignment: AlignmentPane,
     pub then: Place,

@@ -7,21 +7,21 @@ use core_read::cursor::{Cursor, Place};
 use core_read::error::Refusal;
 
 // What a body read answers: the place after the body and how far it looked, or why not.
-#[derive(Drop)]
+#[derive(Clone, Copy)]
 pub enum Parsed {
     Read { end: usize, reach: usize },
     Refused(Refusal),
 }
 
 // What a write answers: the end of what it wrote, or why not.
-#[derive(Drop)]
+#[derive(Clone, Copy)]
 pub enum Written {
     End(usize),
     Refused(Refusal),
 }
 
 // What a body that is read may look at: all of the buffer, or its section up to the section's end.
-#[derive(Drop)]
+#[derive(Clone, Copy)]
 pub enum Extent {
     Buffer,
     Section { end: usize },

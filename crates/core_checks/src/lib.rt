@@ -1,2 +1,4 @@
 // The checks that calls share, and what calls answer.
+#![tactic(auto)]
+
 pub mod checks;

@@ -7,45 +7,45 @@ use crate::error::Refusal;
 use crate::signed;
 
 // In which order the bytes of a number stand: the lowest first, or the highest.
-#[derive(Drop)]
+#[derive(Clone, Copy)]
 pub enum ByteOrder {
     Little,
     Big,
 }
 
 // A place among the bytes, and how far the run looked: the first place past all bytes that it read.
-#[derive(Drop)]
+#[derive(Clone, Copy)]
 pub struct Cursor {
     pub pos: usize,
     pub reach: usize,
 }
 
 // Where a run of steps stands: at a cursor, or refused. A refused run does nothing more.
-#[derive(Drop)]
+#[derive(Clone, Copy)]
 pub enum Place {
     At(Cursor),
     Refused(Refusal),
 }
 
-#[derive(Drop)]
+#[derive(Clone, Copy)]
 pub struct U8Taken {
     pub value: u8,
     pub then: Place,
 }
 
-#[derive(Drop)]
+#[derive(Clone, Copy)]
 pub struct U16Taken {
     pub value: u16,
     pub then: Place,
 }
 
-#[derive(Drop)]
+#[derive(Clone, Copy)]
 pub struct U32Taken {
     pub value: u32,
     pub then: Place,
 }
 
-#[derive(Drop)]
+#[derive(Clone, Copy)]
 pub struct I16Taken {
     pub value: i16,
     pub then: Place,

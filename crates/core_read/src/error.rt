@@ -2,7 +2,7 @@
 ghost use Rattle.std.specs.Prelude.{◌≡◌};
 ghost use Rattle.core_read.specs.Refusals.{number_of, figure_a, figure_b};
 
-#[derive(Drop)]
+#[derive(Clone, Copy)]
 pub enum Refusal {
     TooLong { length: usize },
     BadPlace { place: usize },

@@ -1,4 +1,6 @@
 // Numbers, fixed strings and lists of numbers at a place of lent bytes, read, and the refusals.
+#![tactic(auto)]
+
 pub mod cursor;
 pub mod error;
 pub mod list;

@@ -7,32 +7,32 @@ use crate::cursor::Place;
 use crate::error::Refusal;
 
 // A string of at most 24 bytes: its bytes with their count. What stands after them is no part of it.
-#[derive(Drop)]
+#[derive(Clone, Copy)]
 pub struct FixedString24 {
     pub bytes: [u8; 24],
     pub count: usize,
 }
 
 // A string of at most 8 bytes.
-#[derive(Drop)]
+#[derive(Clone, Copy)]
 pub struct FixedString8 {
     pub bytes: [u8; 8],
     pub count: usize,
 }
 
-#[derive(Drop)]
+#[derive(Clone, Copy)]
 pub struct CountTaken {
     pub count: usize,
     pub then: Place,
 }
 
-#[derive(Drop)]
+#[derive(Clone, Copy)]
 pub struct String24Taken {
     pub value: FixedString24,
     pub then: Place,
 }
 
-#[derive(Drop)]
+#[derive(Clone, Copy)]
 pub struct String8Taken {
     pub value: FixedString8,
     pub then: Place,

@@ -1,4 +1,6 @@
 // A line of hexadecimal digits, taken a byte at a time into lent bytes.
+#![tactic(auto)]
+
 ghost use Rattle.std.specs.Prelude.{◌≡◌, ◌+◌, ◌*◌, ◌/◌, ◌<◌, drop};
 ghost use Rattle.digits.specs.Digits.{value_of, blank_line, bad_line, half_put, line_after, bytes_after, even_line, before_feed, bytes_after_all, fed};
 
@@ -6,7 +8,7 @@ ghost use Rattle.digits.specs.Digits.{value_of, blank_line, bad_line, half_put, 
 pub const MOST: usize = 8192;
 
 // The line so far: how many digits it has, whether it has begun, and whether it is bad.
-#[derive(Drop)]
+#[derive(Clone, Copy)]
 pub struct Line {
     pub digits: usize,
     pub begun: bool,
@@ -14,7 +16,7 @@ pub struct Line {
 }
 
 // The line after bytes up to a line feed, and the line feed's place, or the end where there is none.
-#[derive(Drop)]
+#[derive(Clone, Copy)]
 pub struct Fed {
     pub line: Line,
     pub at: usize,

@@ -8,7 +8,7 @@ use core_read::error::Refusal;
 use flat::layout;
 use strip_header::Section;
 
-#[derive(Drop)]
+#[derive(Clone, Copy)]
 pub struct Answer {
     pub code: u64,
     pub a: u64,
@@ -17,7 +17,7 @@ pub struct Answer {
 }
 
 // The byte order that a number names, if it names one.
-#[derive(Drop)]
+#[derive(Clone, Copy)]
 pub enum OrderFound {
     Is(ByteOrder),
     Other,

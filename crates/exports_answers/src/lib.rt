@@ -1,2 +1,3 @@
 // What the calls for C and Rust answer.
+#![tactic(auto)]
 pub mod answers;

@@ -1,4 +1,6 @@
 // The enums and the packed fields of a pane.
+#![tactic(auto)]
+
 mod bits;
 pub mod pane;
 pub mod position;

@@ -5,7 +5,7 @@ ghost use Rattle.flags.specs.Fields.{pane_flags_of, pane_flags_number, flag_ex_o
 use crate::bits::{bit, eight};
 
 // A byte: one bit each in field order.
-#[derive(Drop)]
+#[derive(Clone, Copy)]
 pub struct PaneFlags {
     pub is_visible: bool,
     pub influenced_alpha: bool,
@@ -50,7 +50,7 @@ impl PaneFlags {
 }
 
 // A byte: three bits, then reserve0 in five.
-#[derive(Drop)]
+#[derive(Clone, Copy)]
 pub struct PaneFlagsEx {
     pub is_no_scale_by_parts: bool,
     pub is_scale_size_by_parts_root: bool,

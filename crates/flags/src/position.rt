@@ -3,7 +3,7 @@ ghost use Rattle.std.specs.Prelude.{◌≡◌};
 ghost use Rattle.flags.specs.Enums.{horizontal_of, horizontal_number, vertical_of, vertical_number};
 ghost use Rattle.flags.specs.Fields.{position_of, position_number, origin_of, origin_number};
 
-#[derive(Drop)]
+#[derive(Clone, Copy)]
 pub enum HorizontalPosition {
     Center,
     Left,
@@ -35,7 +35,7 @@ impl HorizontalPosition {
     }
 }
 
-#[derive(Drop)]
+#[derive(Clone, Copy)]
 pub enum VerticalPosition {
     Center,
     Top,
@@ -68,7 +68,7 @@ impl VerticalPosition {
 }
 
 // A byte: x bits 0-1, y 2-3, parent x 4-5, parent y 6-7.
-#[derive(Drop)]
+#[derive(Clone, Copy)]
 pub struct BflytPosition {
     pub position_x: HorizontalPosition,
     pub position_y: VerticalPosition,
@@ -107,7 +107,7 @@ impl BflytPosition {
 }
 
 // A text's origin, a byte: vertical bits 0-1, horizontal 2-3, the rest dropped.
-#[derive(Drop)]
+#[derive(Clone, Copy)]
 pub struct TextPosition {
     pub horizontal: HorizontalPosition,
     pub vertical: VerticalPosition,

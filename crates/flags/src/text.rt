@@ -5,7 +5,7 @@ ghost use Rattle.flags.specs.Fields.{text_flags_of, text_flags_number};
 
 use crate::bits::eight;
 
-#[derive(Drop)]
+#[derive(Clone, Copy)]
 pub enum TextAlignment {
     Synchronous,
     Left,
@@ -43,7 +43,7 @@ impl TextAlignment {
 }
 
 // What the two floats of the font measure are.
-#[derive(Drop)]
+#[derive(Clone, Copy)]
 pub enum FontMeasureKind {
     Size,
     Scale,
@@ -71,7 +71,7 @@ impl FontMeasureKind {
 }
 
 // A number of two bytes: one bit each in field order, but bit 12, which is the font measure's; bit 15 dropped.
-#[derive(Drop)]
+#[derive(Clone, Copy)]
 pub struct TextPaneFlags {
     pub is_enable_shadow: bool,
     pub is_limit_glyph_count_to_length: bool,
@@ -90,7 +90,7 @@ pub struct TextPaneFlags {
 }
 
 // What that number holds: the flags, and the font measure's kind.
-#[derive(Drop)]
+#[derive(Clone, Copy)]
 pub struct TextFlagsWord {
     pub flags: TextPaneFlags,
     pub measure: FontMeasureKind,

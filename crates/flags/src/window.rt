@@ -5,7 +5,7 @@ ghost use Rattle.flags.specs.Fields.{window_flags_of, window_flags_number};
 
 use crate::bits::bit;
 
-#[derive(Drop)]
+#[derive(Clone, Copy)]
 pub enum WindowKind {
     Around,
     Horizontal,
@@ -37,7 +37,7 @@ impl WindowKind {
     }
 }
 
-#[derive(Drop)]
+#[derive(Clone, Copy)]
 pub enum TextureFlip {
     None,
     FlipU,
@@ -85,7 +85,7 @@ impl TextureFlip {
 }
 
 // A byte: bits 0, 1, kind 2-3, not-draw 4, the rest dropped.
-#[derive(Drop)]
+#[derive(Clone, Copy)]
 pub struct WindowFlags {
     pub use_left_corner_material: bool,
     pub use_vertex_color_for_all_window: bool,

@@ -5,7 +5,7 @@ ghost use Rattle.flat_records.specs.Below.{scanned, or_scanned, checked_by, base
 use flat::layout;
 use strip_records::kind::Kind;
 
-#[derive(Drop)]
+#[derive(Clone, Copy)]
 pub enum Checked {
     Good,
     Bad { index: usize },

@@ -1,15 +1,17 @@
 // Floats kept by their bits.
+#![tactic(auto)]
+
 ghost use Rattle.std.specs.Prelude.{◌≡◌};
 ghost use Rattle.floats.specs.Floats.{value_of, bits_of};
 
 // IEEE 754's binary32 interchange format: the 32 bits, a NaN's payload included.
-#[derive(Drop)]
+#[derive(Clone, Copy)]
 pub struct Binary32 {
     pub bits: u32,
 }
 
 // What the bits stand for: a number (an infinity is one), or a NaN, which keeps its bits.
-#[derive(Drop)]
+#[derive(Clone, Copy)]
 pub enum FloatValue {
     Number(f32),
     NotANumber(u32),

@@ -1,5 +1,6 @@
 // Reads lines of hexadecimal digits, one section a line at place 0, and prints a line of answer for each:
 // `pane R N`, `pass N`, `no NUMBER a b`, `end`, or `bad` (odd, overlong or not hexadecimal).
+#![tactic(auto)]
 use lines::program::Printed;
 
 fn main() {

@@ -1,4 +1,5 @@
 // Limits of document 01, written into a section and read back in both byte orders: one line of answer each.
+#![tactic(auto)]
 mod records;
 mod shown;
 

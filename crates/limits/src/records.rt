@@ -60,7 +60,7 @@ pub(crate) fn window_with(material_index: u16) -> Record {
 // ---- text boxes
 
 // What is set in a text box: with `transform` flag bit 6, with `scale` a font scale in place of a size.
-#[derive(Drop)]
+#[derive(Clone, Copy)]
 struct Parts {
     text_length: u16,
     text: Text,

@@ -6,7 +6,7 @@ ghost use Rattle.lines.specs.Input.{begun, current, remains, onward, refilled};
 use digits::Line;
 
 // The line, whether it has ended, whether there may be more; the place in the chunk that was read, and how many bytes it has.
-#[derive(Drop)]
+#[derive(Clone, Copy)]
 pub struct Input {
     pub line: Line,
     pub ended: bool,

@@ -1,6 +1,7 @@
 // What the programs read and print by lines. Here: a number's decimal digits, the answers and their lines, bytes in hexadecimal, each put into lent bytes
 // at a place. Each answers the place after what it put, and changes no other byte. In the modules: lines of digits from standard input (input), what a line prints
 // (answered, and back with its pane written back), and the loop of a program that prints it (program).
+#![tactic(auto)]
 mod answered;
 mod back;
 mod input;

@@ -11,7 +11,7 @@ use digits::Line;
 use libc::STDOUT_FILENO;
 
 // What is printed for a line: the answer, or the answer with a pane written back.
-#[derive(Drop)]
+#[derive(Clone, Copy)]
 pub enum Printed {
     Answer,
     WrittenBack,

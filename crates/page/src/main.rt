@@ -6,6 +6,7 @@
 // stack may have 25,165,824 or more (`ulimit -s 24576`), and 5,242,880 where it may have less: 8,388,608 is the default, 5,767,168 (`ulimit -s 5632`) the least. A longer page,
 // a smaller stack and an input that cannot be read are told by one line each, and nothing is walked. All lines go to standard output, and there is no exit status
 // to tell them by: Rattle has none.
+#![tactic(auto)]
 mod line;
 
 ghost use Rattle.std.specs.Prelude.{◌≤◌, length};
@@ -72,7 +73,7 @@ fn page(data: &[u8]) {
 // ---- standard input
 
 // What a read gave: the place after it, and whether it failed.
-#[derive(Drop)]
+#[derive(Clone, Copy)]
 struct Input {
     end: usize,
     failed: bool,

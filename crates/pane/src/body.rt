@@ -12,7 +12,7 @@ use pane_checks::checks::{names_checked, reserve_checked, texts_checked};
 use pane_read::{Pane, PaneTaken};
 
 // What a body read gives: its answer, and the pane, blank where it was refused.
-#[derive(Drop)]
+#[derive(Clone, Copy)]
 pub struct PaneParsed {
     pub answer: Parsed,
     pub pane: Pane,

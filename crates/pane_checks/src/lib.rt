@@ -1,2 +1,3 @@
 // The checks of a base pane.
+#![tactic(auto)]
 pub mod checks;

@@ -1,4 +1,5 @@
 // The base pane, with which every kind begins: 76 bytes, and how they are read.
+#![tactic(auto)]
 ghost use Rattle.std.specs.Prelude.{◌≡◌, ◌+◌, ◌<◌, length};
 ghost use Rattle.core_read.specs.Bytes.{Room};
 ghost use Rattle.core_read.specs.Taken.{start};
@@ -14,7 +15,7 @@ use flags::position::BflytPosition;
 use floats::Binary32;
 use ui2d::{Vector2f, Vector3f, fixed};
 
-#[derive(Drop)]
+#[derive(Clone, Copy)]
 pub struct Pane {
     pub pane_flags: PaneFlags,
     pub position: BflytPosition,
@@ -28,7 +29,7 @@ pub struct Pane {
     pub size: Vector2f,
 }
 
-#[derive(Drop)]
+#[derive(Clone, Copy)]
 pub struct PaneTaken {
     pub pane: Pane,
     pub then: Place,

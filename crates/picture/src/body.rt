@@ -15,7 +15,7 @@ use pane_read::Pane;
 use picture_fields::{PicturePane, PictureTaken};
 
 // A pane that was measured, where its quads stand among what it has of its own, and where the run stands then.
-#[derive(Drop)]
+#[derive(Clone, Copy)]
 pub struct PictureMeasured {
     pub base: Pane,
     pub own: PictureTaken,
@@ -23,7 +23,7 @@ pub struct PictureMeasured {
 }
 
 // What a body read gives: its answer, and the pane, blank where it was refused.
-#[derive(Drop)]
+#[derive(Clone, Copy)]
 pub struct PictureParsed {
     pub answer: Parsed,
     pub base: Pane,

@@ -1,4 +1,5 @@
 // What a picture pane has beyond the base: 20 bytes, its quads, and a shape index if it has one. The quads stand in a lent list of bits.
+#![tactic(auto)]
 ghost use Rattle.std.specs.Prelude.{◌≡◌, ◌^◌, ◌<◌, length};
 ghost use Rattle.core_read.specs.Bytes.{Room, Put};
 ghost use Rattle.core_read.specs.Taken.{over};
@@ -13,14 +14,14 @@ use ui2d::Color4u8;
 use ui2d::material::take_material;
 
 // nnbfl's Option of the shape index.
-#[derive(Drop)]
+#[derive(Clone, Copy)]
 pub enum ShapeIndex {
     Absent,
     Index(u32),
 }
 
 // Colours of the corners: top left, top right, bottom left, bottom right. The count is that of the read; a write takes it from the lent list.
-#[derive(Drop)]
+#[derive(Clone, Copy)]
 pub struct PicturePane {
     pub vertex_colors: [Color4u8; 4],
     pub material_index: u16,
@@ -28,14 +29,14 @@ pub struct PicturePane {
     pub quad_count: u8,
 }
 
-#[derive(Drop)]
+#[derive(Clone, Copy)]
 pub struct ShapeTaken {
     pub value: ShapeIndex,
     pub then: Place,
 }
 
 // With the place where the quads begin.
-#[derive(Drop)]
+#[derive(Clone, Copy)]
 pub struct PictureTaken {
     pub picture: PicturePane,
     pub quads: Place,

@@ -1,6 +1,7 @@
 // Reads lines of hexadecimal digits, one section a line at place 0, as the program hexadecimal does, and writes each pane that it reads back at place 0:
 // `pane R N SECTION` with the section's bytes in hexadecimal, or `pane R N no NUMBER a b` where the write is refused; `pass N`, `no NUMBER a b`, `end`, or `bad`. Its stored lines and
 // answers are made by the program `answers` of differential/: the sections read, and the bytes that nnbfl writes for them, but for 143 lines that nnbfl has no answer for.
+#![tactic(auto)]
 use lines::program::Printed;
 
 fn main() {

@@ -1,4 +1,5 @@
 // What a section read answers, and where it starts: the checks before it, and the header of the section.
+#![tactic(auto)]
 ghost use Rattle.std.specs.Prelude.{◌≡◌, ◌≤◌, length};
 ghost use Rattle.strip_header.specs.Header.{read_start, header_taken};
 
@@ -8,7 +9,7 @@ use core_read::cursor::{ByteOrder, Cursor, Place};
 use core_read::error::Refusal;
 
 // What a section read answers: the place after the body read, the next section and how far the body read looked; the next section; the end; or why not.
-#[derive(Drop)]
+#[derive(Clone, Copy)]
 pub enum Section {
     End,
     Passed {
@@ -22,7 +23,7 @@ pub enum Section {
     Refused(Refusal),
 }
 
-#[derive(Drop)]
+#[derive(Clone, Copy)]
 pub struct Header {
     pub letters: u32,
     pub size: usize,

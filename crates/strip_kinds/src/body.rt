@@ -16,7 +16,7 @@ use strip_records::record::Record;
 use text_box::body::TextBoxParsed;
 use window::body::WindowParsed;
 
-#[derive(Drop)]
+#[derive(Clone, Copy)]
 pub struct BodyRead {
     pub answer: Parsed,
     pub record: Record,

@@ -12,7 +12,7 @@ use strip_kinds::body::{BodyRead, read_kind};
 use strip_records::kind::{Kind, KindFound};
 use strip_records::record::{Record, blank_record};
 
-#[derive(Drop)]
+#[derive(Clone, Copy)]
 pub struct SectionRead {
     pub answer: Section,
     pub record: Record,

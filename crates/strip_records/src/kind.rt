@@ -2,7 +2,7 @@
 ghost use Rattle.std.specs.Prelude.{◌≡◌};
 ghost use Rattle.strip_records.specs.Kinds.{letters_of, length_of, kind_of};
 
-#[derive(Drop)]
+#[derive(Clone, Copy)]
 pub enum Kind {
     Pan1,
     Pic1,
@@ -11,7 +11,7 @@ pub enum Kind {
     Ali1,
 }
 
-#[derive(Drop)]
+#[derive(Clone, Copy)]
 pub enum KindFound {
     Is(Kind),
     Other,

@@ -10,7 +10,7 @@ use text_box_read::TextBoxPane;
 use window_read::WindowPane;
 
 // The fields of other kinds are blank after a read, and not looked at by a write.
-#[derive(Drop)]
+#[derive(Clone, Copy)]
 pub struct Record {
     pub kind: Kind,
     pub base: Pane,

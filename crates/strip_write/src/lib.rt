@@ -1,2 +1,3 @@
 // The section write.
+#![tactic(auto)]
 pub mod write;

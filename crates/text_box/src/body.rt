@@ -17,7 +17,7 @@ use text_box_read::{TextBoxPane, TextBoxTaken};
 use text_box_write::write;
 
 // A text box that was measured, where its units and lines stand among what it has of its own, and where the run stands then.
-#[derive(Drop)]
+#[derive(Clone, Copy)]
 pub struct TextBoxMeasured {
     pub base: Pane,
     pub own: TextBoxTaken,
@@ -25,7 +25,7 @@ pub struct TextBoxMeasured {
 }
 
 // What a body read gives: its answer, and the text box, blank where it was refused.
-#[derive(Drop)]
+#[derive(Clone, Copy)]
 pub struct TextBoxParsed {
     pub answer: Parsed,
     pub base: Pane,

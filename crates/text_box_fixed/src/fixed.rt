@@ -12,7 +12,7 @@ use floats::Binary32;
 use ui2d::{Color4u8, Vector2f, fixed};
 
 // Buffer size to tilt, 16 bytes.
-#[derive(Drop)]
+#[derive(Clone, Copy)]
 pub struct HeadTaken {
     pub text_buffer_size: u16,
     pub text_length: u16,
@@ -26,7 +26,7 @@ pub struct HeadTaken {
 }
 
 // Text offset to label offset, 32 bytes.
-#[derive(Drop)]
+#[derive(Clone, Copy)]
 pub struct FontTaken {
     pub text_offset: u32,
     pub top_color: Color4u8,
@@ -39,7 +39,7 @@ pub struct FontTaken {
 }
 
 // Shadow translation to per-character offset, 36 bytes.
-#[derive(Drop)]
+#[derive(Clone, Copy)]
 pub struct ShadowTaken {
     pub translation: Vector2f,
     pub size: Vector2f,
@@ -52,7 +52,7 @@ pub struct ShadowTaken {
 }
 
 // The three, one after the other.
-#[derive(Drop)]
+#[derive(Clone, Copy)]
 pub struct FixedTaken {
     pub head: HeadTaken,
     pub font: FontTaken,

@@ -1,23 +1,24 @@
 // The parts of a text box that offsets point to: text, label and line table.
+#![tactic(auto)]
 pub mod parts;
 pub mod units;
 
 // Its units are a lent list.
-#[derive(Drop)]
+#[derive(Clone, Copy)]
 pub enum Text {
     Absent,
     Present,
 }
 
 // Where a label that was read stands in the strip; on a write its bytes are lent.
-#[derive(Drop)]
+#[derive(Clone, Copy)]
 pub enum Label {
     Absent,
     At { place: usize, length: usize },
 }
 
 // Its lines are a lent list of pairs: offset, width.
-#[derive(Drop)]
+#[derive(Clone, Copy)]
 pub enum LineTable {
     Absent,
     Present { count: u8 },

@@ -10,20 +10,20 @@ use core_read::cursor::{ByteOrder, Place};
 use core_read::error::Refusal;
 use core_read::{cursor, list, text};
 
-#[derive(Drop)]
+#[derive(Clone, Copy)]
 pub struct TextTaken {
     pub text: Text,
     pub place: usize,
     pub then: Place,
 }
 
-#[derive(Drop)]
+#[derive(Clone, Copy)]
 pub struct LabelTaken {
     pub label: Label,
     pub then: Place,
 }
 
-#[derive(Drop)]
+#[derive(Clone, Copy)]
 pub struct LinesTaken {
     pub line_table: LineTable,
     pub place: usize,

@@ -1,4 +1,5 @@
 // What a text box has beyond the base, and how it is read: 84 bytes, then its text, its label and its line table.
+#![tactic(auto)]
 ghost use Rattle.std.specs.Prelude.{◌≡◌, ◌^◌, ◌≤◌, ◌<◌, length};
 ghost use Rattle.core_read.specs.Taken.{over};
 ghost use Rattle.text_box_read.specs.TextBox.{font_measure_of, blank_text_box, assembled, text_box_taken, text_box_units, text_box_lines, Standing};
@@ -14,13 +15,13 @@ use text_box_parts::{Label, LineTable, Text, parts};
 use ui2d::{Color4u8, Vector2f};
 
 // Flag bit 12 decides which of the two it is.
-#[derive(Drop)]
+#[derive(Clone, Copy)]
 pub enum FontMeasure {
     Size(Vector2f),
     Scale(Vector2f),
 }
 
-#[derive(Drop)]
+#[derive(Clone, Copy)]
 pub struct TextBoxPane {
     pub text_buffer_size: u16,
     pub text_length: u16,
@@ -46,7 +47,7 @@ pub struct TextBoxPane {
 }
 
 // What a read gives: the text box, where its units and its line table stand, and where the run stands then.
-#[derive(Drop)]
+#[derive(Clone, Copy)]
 pub struct TextBoxTaken {
     pub text_box: TextBoxPane,
     pub text_place: usize,

@@ -11,7 +11,7 @@ use text_box_parts::{Label, LineTable, Text};
 use text_box_read::TextBoxPane;
 
 // The three offsets, and how many bytes the text box has beyond the base.
-#[derive(Drop)]
+#[derive(Clone, Copy)]
 pub struct Layout {
     pub text: u32,
     pub label: u32,

@@ -1,4 +1,5 @@
 // Vectors, colours and quads: at a place of lent bytes, and quads in a lent list of bits.
+#![tactic(auto)]
 pub mod fixed;
 pub mod material;
 pub mod quads;
@@ -12,20 +13,20 @@ ghost use Rattle.ui2d.specs.Typed.{TypedVector2, TypedVector3, TypedColor, Typed
 use core_read::cursor::{ByteOrder, Place};
 use floats::Binary32;
 
-#[derive(Drop)]
+#[derive(Clone, Copy)]
 pub struct Vector2f {
     pub x: Binary32,
     pub y: Binary32,
 }
 
-#[derive(Drop)]
+#[derive(Clone, Copy)]
 pub struct Vector3f {
     pub x: Binary32,
     pub y: Binary32,
     pub z: Binary32,
 }
 
-#[derive(Drop)]
+#[derive(Clone, Copy)]
 pub struct Color4u8 {
     pub r: u8,
     pub g: u8,
@@ -34,7 +35,7 @@ pub struct Color4u8 {
 }
 
 // nnbfl's TextureUv.
-#[derive(Drop)]
+#[derive(Clone, Copy)]
 pub struct Quad {
     pub top_left: Vector2f,
     pub top_right: Vector2f,
@@ -42,26 +43,26 @@ pub struct Quad {
     pub bottom_right: Vector2f,
 }
 
-#[derive(Drop)]
+#[derive(Clone, Copy)]
 pub struct Vector2Taken {
     pub value: Vector2f,
     pub then: Place,
 }
 
-#[derive(Drop)]
+#[derive(Clone, Copy)]
 pub struct Vector3Taken {
     pub value: Vector3f,
     pub then: Place,
 }
 
-#[derive(Drop)]
+#[derive(Clone, Copy)]
 pub struct ColorTaken {
     pub value: Color4u8,
     pub then: Place,
 }
 
 // Of the corners: top left, top right, bottom left, bottom right.
-#[derive(Drop)]
+#[derive(Clone, Copy)]
 pub struct ColorsTaken {
     pub value: [Color4u8; 4],
     pub then: Place,

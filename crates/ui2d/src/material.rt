@@ -8,7 +8,7 @@ use core_read::cursor;
 use core_read::cursor::{ByteOrder, Cursor, Place};
 
 // Of a picture the bytes are the quad count and the shape byte, of a window's content the quad count and 0, of a frame the flip and 0.
-#[derive(Drop)]
+#[derive(Clone, Copy)]
 pub struct MaterialTaken {
     pub index: u16,
     pub first: u8,

@@ -1,9 +1,11 @@
 // Well-formed UTF-16 by the Unicode Standard's D91.
+#![tactic(auto)]
+
 ghost use Rattle.std.specs.Prelude.{◌≡◌};
 ghost use Rattle.utf16.specs.Utf16.{high_surrogate, low_surrogate, utf16_of};
 
 // Well-formed, or how many units stand before the first unpaired surrogate.
-#[derive(Drop)]
+#[derive(Clone, Copy)]
 pub enum Utf16 {
     WellFormed,
     Unpaired { before: usize },

@@ -1,9 +1,11 @@
 // Well-formed UTF-8 by the Unicode Standard's Table 3-7.
+#![tactic(auto)]
+
 ghost use Rattle.std.specs.Prelude.{◌≡◌, ◌<◌, length, drop};
 ghost use Rattle.utf8.specs.Utf8.{table, row_of, sequence, ascii_end, is_ascii, well_formed};
 
 // A row of the table: how many bytes, and the least and the greatest byte at each place.
-#[derive(Drop)]
+#[derive(Clone, Copy)]
 pub struct Row {
     pub count: usize,
     pub low: [u8; 4],

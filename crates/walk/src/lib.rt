@@ -1,4 +1,5 @@
 // The walk over a strip keeps the strip's bytes with its next place.
+#![tactic(auto)]
 ghost use Rattle.std.specs.Prelude.{◌≡◌};
 ghost use Rattle.strip_header.specs.Header.{section_by_number};
 ghost use Rattle.strip_records.specs.Whole.{lists};
@@ -9,14 +10,14 @@ use core_read::cursor::ByteOrder;
 use strip::read::{Section, SectionRead};
 use strip::record::Record;
 
-#[derive(Drop)]
+#[derive(Clone, Copy)]
 pub struct Walk<'a> {
     pub data: &'a [u8],
     pub place: usize,
 }
 
 // What the section read answers, and the place that the walk hands on.
-#[derive(Drop)]
+#[derive(Clone, Copy)]
 pub struct Step {
     pub answer: Section,
     pub record: Record,

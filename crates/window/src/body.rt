@@ -18,7 +18,7 @@ use window_read::read::{WindowTaken, fill_window, measure_window};
 use window_write::write::{put_window, window_checked, window_length};
 
 // A pane that was measured, where its quads and frames stand among what it has of its own, and where the run stands then.
-#[derive(Drop)]
+#[derive(Clone, Copy)]
 pub struct WindowMeasured {
     pub base: Pane,
     pub own: WindowTaken,
@@ -26,7 +26,7 @@ pub struct WindowMeasured {
 }
 
 // What a body read gives: its answer, and the pane, blank where it was refused.
-#[derive(Drop)]
+#[derive(Clone, Copy)]
 pub struct WindowParsed {
     pub answer: Parsed,
     pub base: Pane,

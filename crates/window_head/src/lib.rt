@@ -1,4 +1,5 @@
 // The head of a window: the 28 bytes after the base.
+#![tactic(auto)]
 ghost use Rattle.std.specs.Prelude.{◌≡◌};
 ghost use Rattle.core_read.specs.Bytes.{Room};
 ghost use Rattle.core_read.specs.Taken.{start};
@@ -10,7 +11,7 @@ use core_read::{cursor, signed};
 use flags::window::WindowFlags;
 
 // Left, right, top, bottom.
-#[derive(Drop)]
+#[derive(Clone, Copy)]
 pub struct Sides {
     pub left: i16,
     pub right: i16,
@@ -18,14 +19,14 @@ pub struct Sides {
     pub bottom: i16,
 }
 
-#[derive(Drop)]
+#[derive(Clone, Copy)]
 pub struct SidesTaken {
     pub value: Sides,
     pub then: Place,
 }
 
 // The 28 bytes after the base.
-#[derive(Drop)]
+#[derive(Clone, Copy)]
 pub struct WindowHead {
     pub inflation: Sides,
     pub frame_size: Sides,
@@ -35,7 +36,7 @@ pub struct WindowHead {
     pub table_offset: u32,
 }
 
-#[derive(Drop)]
+#[derive(Clone, Copy)]
 pub struct HeadTaken {
     pub value: WindowHead,
     pub then: Place,

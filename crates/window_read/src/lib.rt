@@ -1,4 +1,5 @@
 // What a window pane has beyond the base: 28 bytes, and at the offsets that they give the content, the frame table and the frames.
+#![tactic(auto)]
 pub mod read;
 
 ghost use Rattle.std.specs.Prelude.{◌≡◌};
@@ -9,21 +10,21 @@ use flags::window::{TextureFlip, WindowFlags};
 use ui2d::Color4u8;
 
 // The content without its quads, which stand in a lent list.
-#[derive(Drop)]
+#[derive(Clone, Copy)]
 pub struct WindowContent {
     pub vertex_colors: [Color4u8; 4],
     pub material_index: u16,
     pub quad_count: u8,
 }
 
-#[derive(Drop)]
+#[derive(Clone, Copy)]
 pub struct WindowFrame {
     pub material_index: u16,
     pub texture_flip_mode: TextureFlip,
 }
 
 // The window without its base and its frames, which stand in a lent list.
-#[derive(Drop)]
+#[derive(Clone, Copy)]
 pub struct WindowPane {
     pub inflation_left: i16,
     pub inflation_right: i16,
@@ -39,7 +40,7 @@ pub struct WindowPane {
 }
 
 fn zero_color() -> Color4u8
-    ensures* { λ r. ⌜ r ≡ record { r = 0; g = 0; b = 0; a = 0 } ⌝ }
+    ensures { result ≡ record { r = 0; g = 0; b = 0; a = 0 } }
 {
     Color4u8 {
         r: 0,

@@ -11,20 +11,20 @@ use flags::window::TextureFlip;
 use ui2d::material::take_material;
 use window_head::WindowHead;
 
-#[derive(Drop)]
+#[derive(Clone, Copy)]
 pub struct ContentTaken {
     pub value: WindowContent,
     pub then: Place,
 }
 
-#[derive(Drop)]
+#[derive(Clone, Copy)]
 pub struct FrameTaken {
     pub value: WindowFrame,
     pub then: Place,
 }
 
 // A window that was measured: where its quads, its frame table, its frames and the next read stand.
-#[derive(Drop)]
+#[derive(Clone, Copy)]
 pub struct WindowTaken {
     pub window: WindowPane,
     pub quads: Place,

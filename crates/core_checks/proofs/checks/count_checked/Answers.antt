@@ -1,0 +1,7 @@
+use Rattle.core_checks.specs.Checks.{count_bad, count_checked}
+use borrow.Author.Rules.{rules}
+use Rattle.core_checks.proofs.checks.count_checked.Goals as goal
+
+pub returns : goal.returns
+unfolding count_checked count_bad
+returns c = c.stop_if.ensures

@@ -1,5 +1,6 @@
 // The head of a window: the 28 bytes after the base.
 #![tactic(auto)]
+
 ghost use Rattle.std.specs.Prelude.{◌≡◌};
 ghost use Rattle.core_read.specs.Bytes.{Room};
 ghost use Rattle.core_read.specs.Taken.{start};

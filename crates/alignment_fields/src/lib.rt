@@ -1,5 +1,6 @@
 // What an alignment pane has beyond the base, 12 bytes.
 #![tactic(auto)]
+
 ghost use Rattle.std.specs.Prelude.{◌≡◌};
 ghost use Rattle.core_read.specs.Bytes.{Room, Put};
 ghost use Rattle.core_read.specs.declared.cursor.Place.TheVariants.{At};

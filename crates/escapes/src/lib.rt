@@ -1,6 +1,7 @@
 // Bytes shown between quotes on a line of text, so that none of them can be taken for the end of the quotes or of the line.
 // Control characters and the bytes of characters that end a line are written as `\xHH`; a quote and a backslash have a backslash before them.
 #![tactic(auto)]
+
 ghost use Rattle.std.specs.Prelude.{◌≡◌, ◌+◌, ◌-◌, ◌*◌, ◌<◌, ◌≤◌, cond, leb, length, get_or};
 ghost use Rattle.core_read.specs.Bytes.{Room, Put};
 ghost use Rattle.escapes.specs.Escaped.{control, hidden_width, hex_digit, hex_digits, written_out, shown, escaped};

@@ -1,5 +1,6 @@
 // What a section read answers, and where it starts: the checks before it, and the header of the section.
 #![tactic(auto)]
+
 ghost use Rattle.std.specs.Prelude.{◌≡◌, ◌≤◌, length};
 ghost use Rattle.strip_header.specs.Header.{read_start, header_taken};
 

@@ -1,5 +1,6 @@
 // The parts of a text box that offsets point to: text, label and line table.
 #![tactic(auto)]
+
 pub mod parts;
 pub mod units;
 

@@ -1,5 +1,6 @@
 // Vectors, colours and quads: at a place of lent bytes, and quads in a lent list of bits.
 #![tactic(auto)]
+
 pub mod fixed;
 pub mod material;
 pub mod quads;

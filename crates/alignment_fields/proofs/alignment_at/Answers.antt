@@ -1,0 +1,9 @@
+use Rattle.alignment_fields.proofs.Here.{alignment_made}
+use borrow.Author.Rules.{rules}
+use Rattle.core_read.proofs.cursor.Cursor.advanced.Reads as advanced-reads
+use Rattle.core_read.proofs.cursor.u32_at.Reads as u32-at-reads
+use Rattle.alignment_fields.proofs.alignment_at.Goals as goal
+
+pub returns : goal.returns
+returns c =
+    alignment_made _ _ _ c.requires _ _ _ c.u32_at-direction.ensures c.u32_at-margin.ensures c.advanced.ensures

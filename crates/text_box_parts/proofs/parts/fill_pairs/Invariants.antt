@@ -1,0 +1,12 @@
+use Prim.Native.Nat.{◌-◌}
+use Rattle.text_box_parts.proofs.Pairs.{Paired, paired_none, paired_more, paired_all}
+use lib.ListN.{length-set}
+use borrow.Author.Rules.{rules}
+use native.Mathlib.Omega.{arith}
+use Rattle.text_box_parts.proofs.parts.fill_pairs.Given as goal
+
+abbrev pub invariant-loop-i : goal.invariant-loop-i
+invariant-loop-i l = Paired l.order l.data l.at l.n l.initial.out l.out l.i
+
+abbrev pub decreases-loop-i : goal.decreases-loop-i
+decreases-loop-i l = l.n - l.i

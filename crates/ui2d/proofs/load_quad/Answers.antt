@@ -1,0 +1,7 @@
+use Rattle.ui2d.specs.Quads.{quad_at}
+use borrow.Author.Rules.{rules}
+use Rattle.ui2d.proofs.load_quad.Goals as goal
+
+pub returns : goal.returns
+unfolding quad_at
+returns c = rw (c.load_vector-bottom_right.ensures, c.load_vector-bottom_left.ensures, c.load_vector-top_right.ensures, c.load_vector-top_left.ensures)

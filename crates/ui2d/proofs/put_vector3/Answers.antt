@@ -1,0 +1,9 @@
+use Rattle.core_write.proofs.Puts.{◌then◌}
+use Rattle.ui2d.specs.Parts.{encode_vector3}
+use borrow.Author.Rules.{rules}
+use Rattle.ui2d.proofs.put_vector3.Goals as goal
+
+pub returns : goal.returns
+unfolding encode_vector3
+returns c =
+    c.put_u32-q.ensures then c.put_u32-q-2.ensures then c.put_u32.ensures

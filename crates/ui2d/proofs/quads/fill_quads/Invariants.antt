@@ -1,0 +1,12 @@
+use Prim.Native.Nat.{◌-◌, ◌*◌}
+use Rattle.core_read.proofs.Lists.{Filled, filled_none, filled_all}
+use Rattle.ui2d.proofs.QuadRuns.{quad_filled}
+use borrow.Author.Rules.{rules}
+use native.Mathlib.Omega.{arith}
+use Rattle.ui2d.proofs.quads.fill_quads.Given as goal
+
+abbrev pub invariant-loop-i : goal.invariant-loop-i
+invariant-loop-i l = Filled l.order 4 l.data l.at (8 * l.n) l.initial.list l.list (8 * l.i)
+
+abbrev pub decreases-loop-i : goal.decreases-loop-i
+decreases-loop-i l = l.n - l.i

@@ -157,7 +157,7 @@ def by_clause(body, fields):
 def cut_let(body):
     """Where the first let of a body ends."""
     depth, lets = 0, 0
-    for m in re.finditer(r"[(\[{]|[)\]}]|\blet\b|\bin\b", body):
+    for m in re.finditer(r"[(\[{]|[)\]}]|(?<![\w.'-])(?:let|in)(?![\w.'-])", body):
         if m[0] in "([{":
             depth += 1
         elif m[0] in ")]}":

@@ -1,5 +1,6 @@
 // The base pane, with which every kind begins: 76 bytes, and how they are read.
 #![tactic(auto)]
+
 ghost use Rattle.std.specs.Prelude.{◌≡◌, ◌+◌, ◌<◌, length};
 ghost use Rattle.core_read.specs.Bytes.{Room};
 ghost use Rattle.core_read.specs.Taken.{start};

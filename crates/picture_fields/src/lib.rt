@@ -1,5 +1,6 @@
 // What a picture pane has beyond the base: 20 bytes, its quads, and a shape index if it has one. The quads stand in a lent list of bits.
 #![tactic(auto)]
+
 ghost use Rattle.std.specs.Prelude.{◌≡◌, ◌^◌, ◌<◌, length};
 ghost use Rattle.core_read.specs.Bytes.{Room, Put};
 ghost use Rattle.core_read.specs.Taken.{over};

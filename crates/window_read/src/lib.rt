@@ -1,5 +1,6 @@
 // What a window pane has beyond the base: 28 bytes, and at the offsets that they give the content, the frame table and the frames.
 #![tactic(auto)]
+
 pub mod read;
 
 ghost use Rattle.std.specs.Prelude.{◌≡◌};

@@ -1,0 +1,16 @@
+use Rattle.pane_read.proofs.Here.{pane_got}
+use native.Mathlib.Omega.{arith}
+use borrow.Author.Rules.{rules}
+use Rattle.core_read.proofs.cursor.Cursor.advanced.Reads as advanced-reads
+use Rattle.pane_read.proofs.pane_at.Reads as pane-at-reads
+use Rattle.pane_read.proofs.take_fields.Reads as take-fields-reads
+use Rattle.pane_read.proofs.take_pane.Goals as goal
+
+pub returns-then-data-at-ge76 : goal.returns-then-data-at-ge76
+returns-then-data-at-ge76 c = pane_got _ _ _ _ _ c.in-At.is c.advanced.ensures (omega arith) _ c.pane_at-pane.ensures
+
+pub returns-after-at-data : goal.returns-after-at-data
+returns-after-at-data c = rw c.in-At.is c.take_fields.ensures
+
+pub returns-in-Refused : goal.returns-in-Refused
+returns-in-Refused c = rw c.in-Refused.is c.take_fields-in-Refused.ensures

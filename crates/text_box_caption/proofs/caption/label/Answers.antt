@@ -1,0 +1,23 @@
+use Rattle.text_box_caption.proofs.Captions.{inside, beyond, outside, label_got, label_none, label_at, none_at, absent_at}
+use mathlib.Core.Logic.{⊎_elim}
+use borrow.Author.Rules.{rules}
+use Rattle.text_box_caption.proofs.caption.label.Goals as goal
+
+pub returns-then-length-data : goal.returns-then-length-data
+returns-then-length-data c =
+    let x = c.args.«data» in
+    let at = c.in-At.is in
+    let h = inside x.now _ _ c.if-place-data.true c.if-length-data.true in
+    record { result_value = label_got x.now _ _ _ at h; ref_ptr_value = label_at x.now _ _ _ x.ref_ptr at h }
+
+pub returns-in-Absent : goal.returns-in-Absent
+returns-in-Absent c =
+    let a = c.args in
+    record { result_value = search rules; ref_ptr_value = absent_at a.«data».now a.l a.«data».ref_ptr (search rules) }
+
+pub returns-after-place-data : goal.returns-after-place-data
+returns-after-place-data c =
+    let x = c.args.«data» in
+    let at = c.in-At.is in
+    let h : within x.now _ _ ≡ false = ? in
+    record { result_value = label_none x.now _ _ _ at h; ref_ptr_value = none_at x.now _ _ _ x.ref_ptr at h }

@@ -1,0 +1,20 @@
+use Rattle.text_box_fixed.proofs.Here.{fixed_made}
+use native.Mathlib.Omega.{arith}
+use Rattle.core_read.proofs.Cursors.{pos_advanced}
+use borrow.Author.Rules.{rules}
+use Rattle.core_read.proofs.cursor.Cursor.advanced.Reads as advanced-reads
+use Rattle.text_box_fixed.proofs.fixed.font_at.Reads as font-at-reads
+use Rattle.text_box_fixed.proofs.fixed.head_at.Reads as head-at-reads
+use Rattle.text_box_fixed.proofs.fixed.shadow_at.Reads as shadow-at-reads
+use Rattle.text_box_fixed.proofs.fixed.fixed_at.Goals as goal
+
+pub font_at-font-requires : goal.font_at-font-requires
+font_at-font-requires c = rw (c.advanced.ensures, pos_advanced) (omega (arith, c.requires))
+
+pub shadow_at-shadow-requires : goal.shadow_at-shadow-requires
+shadow_at-shadow-requires c = rw (c.advanced-2.ensures, pos_advanced) (omega (arith, c.requires))
+
+pub returns : goal.returns
+returns c =
+    fixed_made _ _ _ c.requires _ _ c.advanced.ensures c.advanced-2.ensures _ _ _
+    c.head_at-head.ensures c.font_at-font.ensures c.shadow_at-shadow.ensures

@@ -1,0 +1,7 @@
+use Rattle.window_read.specs.Window.{blank_window}
+use borrow.Author.Rules.{rules}
+use Rattle.window_read.proofs.blank_window.Goals as goal
+
+pub returns : goal.returns
+unfolding blank_window
+returns c = rw (c.decode.ensures, c.blank_content-content.ensures)

@@ -1,0 +1,15 @@
+use mathlib.Core.Path.{◌≡◌, refl}
+use Prim.Native.Nat.{◌-◌, ◌≤◌}
+use native.Mathlib.Nat.{sub-zero}
+use Rattle.core_read.specs.Lists.{numbers_taken}
+use Rattle.window_read.specs.Window.{frames_taken}
+use Rattle.window_read.proofs.Run.{frames_none, frames_turn}
+use borrow.Author.Rules.{rules}
+use native.Mathlib.Omega.{arith}
+use Rattle.window_read.proofs.read.measure_frames.Given as goal
+
+abbrev pub invariant-loop-i : goal.invariant-loop-i
+invariant-loop-i l = (l.i ≤ l.n) × ((frames_taken l.order l.data l.from (numbers_taken l.order 4 (l.n - l.i) l.data l.t).value l.p).then ≡ (frames_taken l.order l.data l.from (numbers_taken l.order 4 l.n l.data l.initial.t).value l.initial.p).then)
+
+abbrev pub decreases-loop-i : goal.decreases-loop-i
+decreases-loop-i l = l.n - l.i

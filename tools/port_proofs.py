@@ -17,7 +17,7 @@ PATH = re.compile(rf"(?<![\w.'-])({NAME})((?:\.{NAME})+)")
 
 def plain(name):
     """A name as both spellings have it: port.py gave some steps the name of a word of the library."""
-    return re.sub(r"-lem$", "", name.lower().replace("_", "-"))
+    return re.sub(r"-(\d+)$", r"\1", re.sub(r"-lem$", "", name.lower().replace("_", "-")))
 
 
 def declarations(text):
@@ -68,16 +68,15 @@ class Function:
         """A path of the walk as one of the flat record."""
         place = env[var]
         while steps and steps[0] == "before":
-            place = self.parent(place)
+            place = self.parent(place) or "Start"
             steps = steps[1:]
-            if place is None:
-                self.left.append("path above the start")
-                return None
         if not steps:
             return "c", place
         step, rest = steps[0], steps[1:]
-        at = place
-        # the step of this place or, as a walk may now have more places, of one above it
+        # the step of this place or, as a walk may now have more places or fewer, of another
+        return self.step(place, step, rest) or self.step(env[var], step, rest) or (".".join(["c", step, *rest]), None)
+
+    def step(self, at, step, rest):
         while at is not None:
             i, (name, above, (old, new), callee, _) = self.places[at]
             arm = self.n["arms"][i]
@@ -91,7 +90,7 @@ class Function:
                     rest = ["ensures", clauses["fields"][int(rest[1])], *rest[2:]]
                 return ".".join(["c", new, *rest]), None
             at = above
-        return ".".join(["c", step, *rest]), None
+        return None
 
     def turn(self, body, env):
         out, at = [], 0
@@ -147,6 +146,8 @@ def by_clause(body, fields):
         lets.append(body[:cut].strip())
         body = body[cut:].strip()
     parts = split_tuple(body)
+    if re.match(r"(omega|search|grind|rw|simp)\b", body):
+        parts = [body] * len(fields)
     if parts and len(parts) == len(fields):
         last = "record { " + "; ".join(f"{f} = {p}" for f, p in zip(fields, parts)) + " }"
     else:
@@ -266,6 +267,9 @@ def turn(folder, module, crate, names):
             with open(os.path.join(folder, name), "w", encoding="utf-8") as f:
                 f.write(lines + ("\n" if lines else "") + f"use {module}.{last} as goal\n\n" + "\n\n".join(parts) + "\n")
 
+    spots = {p[0]: new for p, new in zip(names["places"], names["places_by_name"])}
+    by_plain = {plain(k): v for k, v in spots.items()}
+    helpers = [re.sub(r"\btie\.(" + NAME + ")", lambda m: "goal." + by_plain.get(plain(m[1]), m[1]), h) for h in helpers]
     inv_helpers = [h for h in helpers if h.startswith("abbrev") or re.match(r"record|data", h)]
     write("Invariants.antt", "Given", invariants)
     write("Answers.antt", "Goals", helpers + answers if (helpers or answers) else [])

@@ -1,3 +1,4 @@
 // The checks of a base pane.
 #![tactic(auto)]
+
 pub mod checks;

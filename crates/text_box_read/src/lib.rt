@@ -1,5 +1,6 @@
 // What a text box has beyond the base, and how it is read: 84 bytes, then its text, its label and its line table.
 #![tactic(auto)]
+
 ghost use Rattle.std.specs.Prelude.{◌≡◌, ◌^◌, ◌≤◌, ◌<◌, length};
 ghost use Rattle.core_read.specs.Taken.{over};
 ghost use Rattle.text_box_read.specs.TextBox.{font_measure_of, blank_text_box, assembled, text_box_taken, text_box_units, text_box_lines, Standing};

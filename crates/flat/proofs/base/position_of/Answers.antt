@@ -1,0 +1,8 @@
+use borrow.Author.Rules.{rules}
+use Rattle.flags.proofs.position.HorizontalPosition.decode.Reads as position-HorizontalPosition-decode-reads
+use Rattle.flags.proofs.position.VerticalPosition.decode.Reads as position-VerticalPosition-decode-reads
+use Rattle.flat.proofs.words.byte_at.Reads as byte-at-reads
+use Rattle.flat.proofs.base.position_of.Goals as goal
+
+pub returns : goal.returns
+returns c = rw (c.decode-parent_relative_position_y.ensures, c.byte_at-4.ensures, c.decode-parent_relative_position_x.ensures, c.byte_at-3.ensures, c.decode-position_y.ensures, c.byte_at-2.ensures, c.decode-position_x.ensures, c.byte_at.ensures)

@@ -1,0 +1,16 @@
+use mathlib.Core.Path.{◌≡◌, refl}
+use Prim.Native.Nat.{◌-◌, ◌*◌, ◌/◌, ◌≤◌, ◌<◌}
+use lib.ListN.{length, take}
+use Rattle.core_read.specs.Bytes.{Put}
+use Rattle.core_write.proofs.Puts.{◌then◌, put_as, put_none}
+use Rattle.window_write.specs.Write.{encode_frames}
+use Rattle.window_write.proofs.Puts.{frames_more, frames_all}
+use borrow.Author.Rules.{rules}
+use native.Mathlib.Omega.{arith}
+use Rattle.window_write.proofs.write.put_frames.Given as goal
+
+abbrev pub invariant-loop-i : goal.invariant-loop-i
+invariant-loop-i l = (l.i ≤ length l.frames / 2) × Put l.initial.out l.p (4 * l.i) (encode_frames l.order (take (2 * l.i) l.frames)) l.q l.out
+
+abbrev pub decreases-loop-i : goal.decreases-loop-i
+decreases-loop-i l = length l.frames / 2 - l.i

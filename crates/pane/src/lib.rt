@@ -1,5 +1,6 @@
 // The base pane: what is read and written of it, its checks and its body calls.
 #![tactic(auto)]
+
 pub mod body;
 
 ghost use Rattle.core_read.specs.Bytes.{Room, Put};

@@ -1,5 +1,6 @@
 // The checks of a text box: 7 of a label that was read; 1, 9, 11, 13, 14 and 15 of one to write. The lists and the label of an absent part are not looked at.
 #![tactic(auto)]
+
 ghost use Rattle.std.specs.Prelude.{◌≡◌};
 ghost use Rattle.utf16.specs.Utf16.{utf16_of};
 ghost use Rattle.text_box_parts.specs.Parts.{text_part, label_part, line_part};

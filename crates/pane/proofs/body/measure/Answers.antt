@@ -1,0 +1,10 @@
+use Rattle.pane.specs.Body.{pane_measured}
+use borrow.Author.Rules.{rules}
+use Rattle.core_checks.proofs.checks.reach_checked.Reads as reach-checked-reads
+use Rattle.pane_checks.proofs.checks.texts_checked.Reads as texts-checked-reads
+use Rattle.pane_read.proofs.take_pane.Reads as take-pane-reads
+use Rattle.pane.proofs.body.measure.Goals as goal
+
+pub returns : goal.returns
+unfolding pane_measured
+returns c = rw (c.reach_checked-then.ensures, c.texts_checked-p2.ensures, c.take_pane-taken.ensures)

@@ -1,0 +1,10 @@
+use Rattle.core_write.proofs.Puts.{◌then◌}
+use Rattle.pane_read.specs.Pane.{encode_pane}
+use borrow.Author.Rules.{rules}
+use Rattle.pane.proofs.put_head.Reads as put-head-reads
+use Rattle.pane.proofs.put_transform.Reads as put-transform-reads
+use Rattle.pane.proofs.put_pane.Goals as goal
+
+pub returns : goal.returns
+unfolding encode_pane
+returns c = c.put_head-q.ensures then c.put_transform.ensures

@@ -1,0 +1,6 @@
+use borrow.Author.Rules.{rules}
+use Rattle.strip_records.proofs.filled.frames_of.Reads as frames-of-reads
+use Rattle.strip_records.proofs.filled.frames_filled.Goals as goal
+
+pub returns-in-Wnd1 : goal.returns-in-Wnd1
+returns-in-Wnd1 c = rw c.in-Wnd1.is c.frames_of.ensures

@@ -1,0 +1,8 @@
+use Rattle.core_write.proofs.Puts.{◌then◌}
+use Rattle.text_box_write.specs.Fixed.{encode_fixed}
+use borrow.Author.Rules.{rules}
+use Rattle.text_box_write.proofs.fixed.put_fixed.Goals as goal
+
+pub returns : goal.returns
+unfolding encode_fixed
+returns c = c.put_indices-q.ensures then c.put_style-q.ensures then c.put_font-q.ensures then c.put_shadow.ensures

@@ -1,3 +1,4 @@
 // What the calls for C and Rust answer.
 #![tactic(auto)]
+
 pub mod answers;

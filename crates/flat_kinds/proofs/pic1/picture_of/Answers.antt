@@ -1,0 +1,9 @@
+use Rattle.flat_kinds.specs.Own.{picture_at}
+use borrow.Author.Rules.{rules}
+use Rattle.flat_kinds.proofs.pic1.shape_of.Reads as shape-of-reads
+use Rattle.flat.proofs.words.colors_at.Reads as colors-at-reads
+use Rattle.flat_kinds.proofs.pic1.picture_of.Goals as goal
+
+pub returns : goal.returns
+unfolding picture_at
+returns c = rw (c.shape_of-shape_info_array_index.ensures, c.colors_at-vertex_colors.ensures)

@@ -1,0 +1,10 @@
+use Rattle.flat_text_box.proofs.Lengths.{text_end, label_end}
+use Rattle.flat.proofs.Storing.{next}
+use borrow.Author.Rules.{rules}
+use Rattle.flat_text_box.proofs.txt1.put_label.Reads as put-label-reads
+use Rattle.flat_text_box.proofs.txt1.put_lines.Reads as put-lines-reads
+use Rattle.flat_text_box.proofs.txt1.put_text.Reads as put-text-reads
+use Rattle.flat_text_box.proofs.txt1.put_parts.Goals as goal
+
+pub returns : goal.returns
+returns c = next (text_end c.args.x.shadow_italic_tilt c.args.x.text) c.put_text.ensures (next (label_end c.args.x.label) c.put_label.ensures c.put_lines.ensures)

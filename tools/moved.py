@@ -2,7 +2,7 @@
 """What a change moved: moved.py BASE [HEAD]. Compares the crates of two commits item by item (HEAD: the tracked files of the working tree, unless
 a commit is named) and prints, in Markdown, how many items stayed as they were, which were changed, are new or are gone, and the lines that git
 counts. Comments, imports and spaces of code, definitions and proofs are no change of an item; stored input and output go by their bytes. The
-proof of a function is one item, and so is an edit."""
+proof of a function is one item, the files of its folder together, and so is an edit."""
 import collections
 import io
 import pathlib
@@ -104,6 +104,8 @@ def items(tree):
     found = {}
     for path, text in tree.items():
         kind = path.split("/")[2]
+        if kind == "out":  # rt's own, in commits of the port where it was not left out
+            continue
         if path.endswith(".rt"):
             for (group, name), item in code_items(text).items():
                 found[group, path, name] = item
@@ -111,7 +113,8 @@ def items(tree):
             for name, block in antt_blocks(text).items():
                 found["definitions" if kind == "specs" else "laws", path, name] = block
         elif kind == "proofs":
-            found["proofs of functions", path, ""] = "\n".join(antt_blocks(text).values())
+            key = "proofs of functions", path.rsplit("/", 1)[0], ""
+            found[key] = found.get(key, "") + "\n" + "\n".join(antt_blocks(text).values())
         elif kind == "must-fail":
             found["must-fail edits", path, ""] = text
         else:

@@ -30,7 +30,7 @@ def of_rust():
 
 
 def of_page():
-    """By number: the definitions that `sentence` picks, `ascii ".."` for text, `decimal a` and `stringText b` for figures."""
+    """By number: the definitions that `sentence` picks, `ascii ".."` for text, `decimal a` and `string_text b` for figures."""
     text = (TOP / "crates/page/specs/PageLine.antt").read_text()
     found = {}
     for number, name in re.findall(r"eqb number (\d+)\) \((\w+)", text):

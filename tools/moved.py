@@ -70,7 +70,9 @@ def code_items(text):
     found, owner, lines, at = {}, "", text.split("\n"), 0
     for line in lines:
         if line.startswith("pub use "):
-            found["names passed on", line[8:]] = line
+            several = re.fullmatch(r"(.*::)\{(.*)\};", line[8:])
+            for name in [several.group(1) + it + ";" for it in several.group(2).split(", ")] if several else [line[8:]]:
+                found["names passed on", name] = name
     while at < len(lines):
         head = ITEM.match(lines[at])
         if not head:

@@ -1,5 +1,5 @@
 /*
- * The static library libexports.a, which `rt staticlib exports` makes: reading and writing BFLYT panes.
+ * The static library libexports.a, which `rt lib` in crates/exports makes: reading and writing BFLYT panes.
  *
  * A slice crosses as a pointer and a count of elements. The pointer is never NULL and is aligned for its element, also where the count is 0. Slices
  * that are written (without const) overlap no other. A call asks for nothing more: any numbers are answered, and nothing outside the slices is

@@ -1,7 +1,7 @@
 /*
  * Reads a strip of one alignment pane, moves the pane and writes it back over itself, with as many numbers of each list as the read filled. From the
- * top of the repository, once `rt staticlib exports` has made the library:
- *   cc -Wall -Werror bindings/c/example.c -L target/staticlib -lexports -o target/example && target/example
+ * top of the repository, once `rt lib` in crates/exports has made the library:
+ *   cc -Wall -Werror bindings/c/example.c -L crates/exports/out -lexports -o /tmp/example && /tmp/example
  */
 #include "bidlomeqa.h"
 

@@ -177,7 +177,7 @@ fn the_sentences_are_those_of_the_docs() {
 #[test]
 fn the_c_example_runs() {
     let program = Path::new(env!("CARGO_TARGET_TMPDIR")).join("example");
-    let folder = std::env::var_os("BIDLOMEQA_LIB").map_or(repository().join("target/staticlib"), PathBuf::from);
+    let folder = std::env::var_os("BIDLOMEQA_LIB").map_or(repository().join("crates/exports/out"), PathBuf::from);
     let compiled = Command::new("cc")
         .args(["-std=c99", "-Wall", "-Wextra", "-Werror"])
         .arg(repository().join("bindings/c/example.c"))

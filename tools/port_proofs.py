@@ -27,7 +27,7 @@ def declarations(text):
         if line.startswith("use "):
             uses.append(line)
             continue
-        if line and not line.startswith((" ", "\t")) and now and not all(x.startswith("--") for x in now if x):
+        if line and not line.startswith((" ", "\t", ")", "]", "}")) and now and not all(x.startswith("--") for x in now if x):
             head = now_head(now)
             if not (head and (line.startswith(head + " ") or line.startswith("unfolding"))):
                 blocks.append(now)
@@ -151,7 +151,9 @@ def by_clause(body, fields):
     if parts and len(parts) == len(fields):
         last = "record { " + "; ".join(f"{f} = {p}" for f, p in zip(fields, parts)) + " }"
     else:
-        last = f"let asked = {body} in record {{ " + "; ".join(f"{f} = asked.{i}" for i, f in enumerate(fields)) + " }"
+        # a law gives three facts as a pair whose second is a pair
+        at = [".1" * i + (".0" if i < len(fields) - 1 else "") for i in range(len(fields))]
+        last = f"let asked = {body} in record {{ " + "; ".join(f"{f} = asked{a}" for f, a in zip(fields, at)) + " }"
     return "\n    ".join(["", *lets, last]) if lets else last
 
 
@@ -251,7 +253,8 @@ def turn(folder, module, crate, names):
             elif fields and len(fields) > 1 and not body.strip().startswith("record"):
                 body = by_clause(body.strip(), fields)
             unf = "".join(l + "\n" for l in code if l.startswith("unfolding"))
-            body = body if body.startswith("\n") else " " + body
+            body = body.strip()
+            body = ("\n    " if "\n" in body and not body.startswith(("(", "record")) else " ") + body
             answers.append("\n".join(notes + [f"pub {goal} : goal.{goal}\n{unf}{goal} c ={body}"]))
             continue
         if m and re.search(r"=\s*(search rules|tt|omega arith|search needs)\s*$", joined):

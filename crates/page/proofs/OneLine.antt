@@ -96,7 +96,7 @@ no_nul_plain a = word (ascii "the label at ") refl and decimal_plain a and word 
 
 per_character_plain : (a : ℕ) → Plain (per_character_text a)
 unfolding per_character_text has_control control
-per_character_plain a = word (ascii "the text box has a per_character transform at offset ") refl and decimal_plain a and word (ascii ", which is not read") refl
+per_character_plain a = word (ascii "the text box has a per-character transform at offset ") refl and decimal_plain a and word (ascii ", which is not read") refl
 
 ill_formed_plain : (a b : ℕ) → Plain (ill_formed_text a b)
 unfolding ill_formed_text has_control control

@@ -42,7 +42,7 @@ unfoldable pub no_nul_text : ℕ → List ℕ
 no_nul_text a = ascii "the label at " ++ decimal a ++ ascii " meets no NUL before the end of the buffer"
 
 unfoldable pub per_character_text : ℕ → List ℕ
-per_character_text a = ascii "the text box has a per_character transform at offset " ++ decimal a ++ ascii ", which is not read"
+per_character_text a = ascii "the text box has a per-character transform at offset " ++ decimal a ++ ascii ", which is not read"
 
 unfoldable pub ill_formed_text : ℕ → ℕ → List ℕ
 ill_formed_text a b = ascii "the " ++ string_text b ++ ascii " at " ++ decimal a ++ ascii " is ill-formed UTF-8"

@@ -7,7 +7,8 @@ use Rattle.text_box_write.proofs.fixed.put_font.Goals as goal
 
 pub returns : goal.returns
 unfolding encode_font
-returns c =     c.put_u32-q.ensures
+returns c =
+    c.put_u32-q.ensures
     then c.put_color-q.ensures
     then c.put_color-q-2.ensures
     then put_as refl (ap (encode_vector2 _) c.measure_vector-floats.ensures) c.put_vector2-q.ensures

@@ -3,10 +3,9 @@ use native.Mathlib.Omega.{arith}
 use borrow.Author.Rules.{rules}
 use Rattle.text_box_write.proofs.write.lay_out.Goals as goal
 
-)
-
 pub returns : goal.returns
 unfolding layout_of
 returns c = (
   rw (c.lines_offset.ensures, c.label_offset.ensures, c.text_offset.ensures, c.lines_width-table.ensures.0, c.label_width-name.ensures.0, c.text_width-text.ensures.0),
   omega (arith, c.lines_width-table.ensures.1, c.label_width-name.ensures.1, c.text_width-text.ensures.1),
+)

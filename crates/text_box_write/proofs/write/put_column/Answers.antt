@@ -13,7 +13,7 @@ unfolding bytes_of_all column
 loop-i-init c = (omega arith, put_none _ _)
 
 pub loop-i-preserved : goal.loop-i-preserved
-loop-i-preserved c =     (omega arith, put_as (omega arith) (column_bytes _ _ _ _) (c.loop-i.invariant.1 then c.put_u32-q.ensures))
+loop-i-preserved c = (omega arith, put_as (omega arith) (column_bytes _ _ _ _) (c.loop-i.invariant.1 then c.put_u32-q.ensures))
 
 pub returns : goal.returns
 returns c =

@@ -137,7 +137,10 @@ def after():
             texts[path] = TOKEN.sub(lambda m: GIVE_WAY.get(m[0], m[0]), f.read())
     new = renaming(texts)
     for path, text in texts.items():
-        rewrite(path, lambda _: respell(path, text, new))
+        said = re.sub(r"«(most|whole)[-_](quads|frames)»", r"\1_\2", respell(path, text, new))
+        # a text in quotes is no name
+        said = said.replace("per_character transform", "per-character transform")
+        rewrite(path, lambda _: said)
     print(f"{len(new)} names")
 
 

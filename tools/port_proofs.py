@@ -55,6 +55,22 @@ def trim(block):
     return block
 
 
+def clause(path, fields, steps):
+    """A clause by its place among nested pairs, by its name; of several, a tuple of them."""
+    i = 0
+    while len(fields) - i > 1 and steps and steps[0] in "01":
+        if steps[0] == "0":
+            return ".".join([path, fields[i], *steps[1:]])
+        i, steps = i + 1, steps[1:]
+    if len(fields) - i == 1:
+        return ".".join([path, fields[i], *steps])
+    parts = [f"{path}.{f}" for f in fields[i:]]
+    text = parts.pop()
+    while parts:
+        text = f"({parts.pop()}, {text})"
+    return text
+
+
 class Function:
     def __init__(self, names):
         self.n = names
@@ -73,6 +89,8 @@ class Function:
         if not steps:
             return "c", place
         step, rest = steps[0], steps[1:]
+        if step == "requires" and self.n["pre"] and self.n["pre"]["fields"]:
+            return clause("c.requires", self.n["pre"]["fields"], rest), None
         # the step of this place or, as a walk may now have more places or fewer, of another
         return self.step(place, step, rest) or self.step(env[var], step, rest) or (".".join(["c", step, *rest]), None)
 
@@ -86,8 +104,8 @@ class Function:
                         return ".".join(["c", arm[0], field, *rest[len(sub) :]]), None
             if plain(old) == plain(step):
                 clauses = self.n["clauses"][i]
-                if rest and rest[0] == "ensures" and clauses and clauses["fields"] and len(rest) > 1 and rest[1].isdigit():
-                    rest = ["ensures", clauses["fields"][int(rest[1])], *rest[2:]]
+                if rest and rest[0] == "ensures" and clauses and clauses["fields"]:
+                    return clause(".".join(["c", new, "ensures"]), clauses["fields"], rest[1:]), None
                 return ".".join(["c", new, *rest]), None
             at = above
         return None
@@ -133,7 +151,18 @@ def split_tuple(text):
             parts.append(text[start:i].strip())
             start = i + 1
     parts.append(text[start:-1].strip())
-    return parts
+    return [p for p in parts if p]
+
+
+def parts_of(text, n):
+    """The n parts of nested pairs, or None."""
+    parts = split_tuple(text)
+    while parts and len(parts) < n:
+        more = split_tuple(parts[-1])
+        if not more:
+            return None
+        parts = parts[:-1] + more
+    return parts if parts and len(parts) == n else None
 
 
 def by_clause(body, fields):
@@ -145,10 +174,13 @@ def by_clause(body, fields):
             break
         lets.append(body[:cut].strip())
         body = body[cut:].strip()
-    parts = split_tuple(body)
-    if re.match(r"(omega|search|grind|rw|simp)\b", body):
+    parts = parts_of(body, len(fields))
+    tactic = re.match(r"(?:rw|simp) (?:\((?:[^()]|\([^()]*\))*\)|[\w.'-]+) (?=\()", body)
+    if not parts and tactic and parts_of(body[tactic.end() :], len(fields)):
+        parts = [tactic[0] + ("(" + p + ")" if " " in p and not p.startswith("(") else p) for p in parts_of(body[tactic.end() :], len(fields))]
+    elif not parts and re.match(r"(omega|search|grind|rw|simp)\b", body):
         parts = [body] * len(fields)
-    if parts and len(parts) == len(fields):
+    if parts:
         last = "record { " + "; ".join(f"{f} = {p}" for f, p in zip(fields, parts)) + " }"
     else:
         # a law gives three facts as a pair whose second is a pair
@@ -247,10 +279,7 @@ def turn(folder, module, crate, names):
             env = {args[0]: place} if args and args[0] != "_" else {}
             body = fn.turn(body, env)
             fields = names["asked"].get(needs[i][0]) or []
-            parts = split_tuple(body)
-            if fields and len(fields) > 1 and parts and len(parts) == len(fields):
-                body = "record { " + "; ".join(f"{f} = {p}" for f, p in zip(fields, parts)) + " }"
-            elif fields and len(fields) > 1 and not body.strip().startswith("record"):
+            if fields and len(fields) > 1 and not body.strip().startswith("record"):
                 body = by_clause(body.strip(), fields)
             unf = "".join(l + "\n" for l in code if l.startswith("unfolding"))
             body = body.strip()

@@ -76,11 +76,11 @@ module _ {w : List ℕ} {p : ℕ} (xs : List ℕ) (a : Holds w p xs) where
 pub bytes_back : {w : List ℕ} {p : ℕ} (bs : List ℕ) → Below 256 bs → Holds w p bs → bytes_at w p (length bs) ≡ bs
 unfolding bytes_at Below
 bytes_back [] h a = refl
-bytes_back {w} {p} (b ∷ bs) (h, k) a =
+bytes_back {w} {p = p} (b ∷ bs) (h, k) a =
     let e : p + 0 ≡ p = omega arith in
     let f = subst (λ (n : ℕ). byte_at w n ≡ b) e (byte_nth (b ∷ bs) a 0 b (omega arith) refl h) in
     let (a₁, a₂) = split (b ∷ []) bs 1 refl a in
-    rw (f, bytes_back bs k a₂)
+    rw (f, bytes_back {p = p + 1} bs k a₂)
 
 pub color_back : {w : List ℕ} {p : ℕ} (v : Color4u8) → TypedColor v → Holds w p (color_words v) → quadruple_at w p ≡ v
 color_back {w} {p} v t a =

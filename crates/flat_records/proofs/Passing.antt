@@ -57,11 +57,11 @@ colors_below vs t =
 held_all : {w : List ℕ} {p : ℕ} (bound : ℕ) (xs : List ℕ) → Below bound xs → Holds w p xs → scanned w p (length xs) bound ≡ Good
 unfolding scanned Below
 held_all bound [] h a = refl
-held_all {w} {p} bound (x ∷ xs) (h, k) a =
+held_all {w} {p = p} bound (x ∷ xs) (h, k) a =
     let e : p + 0 ≡ p = omega arith in
     let f = subst (λ (n : ℕ). get_or w n 0 ≡ x) e (nth (x ∷ xs) a 0 x (omega arith) refl) in
     let (a₁, a₂) = split (x ∷ []) xs 1 refl a in
-    rw (f, lt-ltb x bound h) (held_all bound xs k a₂)
+    rw (f, lt-ltb x bound h) (held_all {p = p + 1} bound xs k a₂)
 
 pub held : {w : List ℕ} {p n bound : ℕ} (xs : List ℕ) → length xs ≡ n → Small bound xs → Holds w p xs → Scanned w p n bound
 held {w} {p} {n} {bound} xs e h a = record { good = subst (λ (k : ℕ). scanned w p k bound ≡ Good) e (held_all bound xs h.all a) }

@@ -297,8 +297,8 @@ module _ {s : List ℕ} (order : ByteOrder) (c : Cursor) (body : ℕ) (x : Exten
             window-laws.window_back (advanced c 76) order body a q f t.pane.window o wnd_quads_fit wnd_frames_fit low wnd_here wnd_base.1,
           );
           own = λ l.
-              let n : 8 * (length q / 8) ≡ length q = omega (arith, o.«whole-quads») in
-              let m : 2 * (length f / 2) ≡ length f = omega (arith, o.«whole-frames») in
+              let n : 8 * (length q / 8) ≡ length q = omega (arith, o.whole_quads) in
+              let m : 2 * (length f / 2) ≡ length f = omega (arith, o.whole_frames) in
               rw (
                 wnd_quads l.quads,
                 wnd_frames l.frames,

@@ -154,11 +154,11 @@ module _ {s : List ℕ} (c : Cursor) (order : ByteOrder) (body : ℕ) (x : Windo
   content_here : ◌≡◌ {A = ContentTaken} (content_taken order s (At (advanced c 28))) (record { value = read_back_content x.content quads; then = At (advanced c 48) })
       × Holds s (c.pos + 48) (bytes_of_all order 4 quads)
   content_here =
-      content_at c order x.content quads (record { colors = t.colors; material = t.material }) (count_fit (length quads) g.«most_quads») at_parts.content
+      content_at c order x.content quads (record { colors = t.colors; material = t.material }) (count_fit (length quads) g.most_quads) at_parts.content
 
   quads_here : ◌≡◌ {A = Taken (List ℕ)} (numbers_taken order 4 (8 * (length quads / 8)) s (At (advanced c 48)))
       (record { value = quads; then = At (advanced c (48 + 4 * length quads)) })
-  quads_here = rw (eight (length quads) g.«whole-quads») (numbers_at_lem c order 48 4 quads fq content_here.1)
+  quads_here = rw (eight (length quads) g.whole_quads) (numbers_at_lem c order 48 4 quads fq content_here.1)
 
   table_here : ◌≡◌ {A = Taken (List ℕ)} (numbers_taken order 4 (length frames / 2) s (At (at_table c body (length quads))))
       (record {
@@ -169,7 +169,7 @@ module _ {s : List ℕ} (c : Cursor) (order : ByteOrder) (body : ℕ) (x : Windo
   table_here =
       let m = length frames / 2 in
       let first = table_offset body (length quads) + 4 * m in
-      let f : Fit 4 (frame_offsets first m) = offsets_fit first m (small body (length quads) (length frames) g.«most_quads» g.«most-frames») in
+      let f : Fit 4 (frame_offsets first m) = offsets_fit first m (small body (length quads) (length frames) g.most_quads g.most_frames) in
       table_at (at_table c body (length quads)) order first m f (rw pos_moved at_parts.table)
 
   frames_here : ◌≡◌ {A = Taken (List ℕ)}
@@ -181,7 +181,7 @@ module _ {s : List ℕ} (c : Cursor) (order : ByteOrder) (body : ℕ) (x : Windo
       let d = at_table c body (length quads) in
       let e = pos_moved (advanced c (48 + 4 * length quads)) (c.pos + table_place body (length quads)) in
       let h : Holds s (d.pos + 4 * m) (encode_frames order frames) = rw (e, add_assoc) at_parts.frames in
-      frames_at d order (4 * m) (body - 8) (table_offset body (length quads) + 4 * m) frames (omega (arith, e, here, low)) ff g.flips g.«whole-frames» h
+      frames_at d order (4 * m) (body - 8) (table_offset body (length quads) + 4 * m) frames (omega (arith, e, here, low)) ff g.flips g.whole_frames h
 
   -- THE WINDOW
   pub window_back : ◌≡◌ {A = WindowTaken} (window_taken order s (At c) body) (record {
@@ -197,7 +197,7 @@ module _ {s : List ℕ} (c : Cursor) (order : ByteOrder) (body : ℕ) (x : Windo
       let k = table_place body (length quads) in
       let d = at_table c body (length quads) in
       let end = holds_fits _ at_parts.frames in
-      let fit : table_offset body (length quads) + 4 * m + 4 * m < 256 ^ 4 = small body (length quads) (length frames) g.«most_quads» g.«most-frames» in
+      let fit : table_offset body (length quads) + 4 * m + 4 * m < 256 ^ 4 = small body (length quads) (length frames) g.most_quads g.most_frames in
       window_run order s (At c) body (record { value = head_of x m (table_offset body (length quads)); then = At (advanced c 28) })
       (record { value = read_back_content x.content quads; then = At (advanced c 48) })
       (record { value = quads; then = At (advanced c (48 + 4 * length quads)) })
@@ -206,7 +206,7 @@ module _ {s : List ℕ} (c : Cursor) (order : ByteOrder) (body : ℕ) (x : Windo
       (At (advanced c 28))
       (At d)
       (At (after_window c body (length quads) (length frames)))
-      (rw (advanced_zero c) at (head_at c order x m (table_offset body (length quads)) t (frames_fit (length frames) g.«most-frames») (omega (arith, fit)) at_parts.head))
+      (rw (advanced_zero c) at (head_at c order x m (table_offset body (length quads)) t (frames_fit (length frames) g.most_frames) (omega (arith, fit)) at_parts.head))
       (seek_here s (advanced c 28) (body - 8 + 112) (omega (arith, pos_advanced c 28, here, low)) (omega (arith, pos_advanced c 28, end)))
       content_here.0
       quads_here

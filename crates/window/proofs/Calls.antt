@@ -139,7 +139,7 @@ module _ (b : Pane) (quads frames : List ℕ) (n body : ℕ) (p₁ p₂ p₃ p�
   pub bounds : (c : Cursor) → p₄ ≡ At c → (body < 2 ^ 32) × (length quads ≤ 2040) × (length frames ≤ 510)
   bounds c h =
       let (o, g, l) = lists_cleared b quads frames n body c (lists ∙ h) in
-      (omega (arith, o.most, o.within), l.«most_quads», l.«most-frames»)
+      (omega (arith, o.most, o.within), l.most_quads, l.most_frames)
 
   pub checked_end : (c : Cursor) (w : ℕ) (r : Place) → p₄ ≡ At c → w ≡ window_length body (length quads) (length frames)
       → r ≡ end_checked (At c) (body + (76 + w)) n → r ≡ window_write_checked b quads frames n body

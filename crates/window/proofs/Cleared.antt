@@ -2,8 +2,11 @@
 use mathlib.Core.Path.{◌≡◌}
 use Prim.Native.Nat.{ℕ, ◌+◌}
 use mathlib.Core.List.{List, [], ◌∷◌}
+use lib.Dec.{ltb}
 use lib.ListN.{length}
 use borrow.Author.Tests.{ltb-false}
+use Rattle.core_read.specs.Taken.{stop_if}
+use Rattle.core_read.specs.declared.error.Refusal.TheVariants.{BadFlip}
 use Rattle.core_read.specs.declared.cursor.Cursor.{Cursor}
 use Rattle.core_read.specs.declared.cursor.Place.{Place}
 use Rattle.core_read.specs.declared.cursor.Place.TheVariants.{At}
@@ -16,7 +19,7 @@ unfolding flips_checked GoodFlips
 flips_cleared p i [] c e = (e, tt)
 flips_cleared p i (material ∷ []) c e = (e, tt)
 flips_cleared p i (material ∷ flip ∷ l) c e =
-    let (h, g) = flips_cleared _ (i + 1) l c e in
+    let (h, g) = flips_cleared (stop_if p (ltb 5 flip) (BadFlip i flip)) (i + 1) l c e in
     let k = cleared p _ _ c h in
     (k.0, (ltb-false _ _ k.1, g))
 
@@ -26,4 +29,4 @@ window_cleared p quads frames c e =
     let (h₃, g) = flips_cleared _ 0 frames c e in
     let (h₂, e₂, f) = count_cleared _ 4 2 (length frames) c h₃ in
     let (h₁, e₁, q) = count_cleared p 1 8 (length quads) c h₂ in
-    (h₁, record { «most_quads» = q; «whole-quads» = e₁; «most-frames» = f; «whole-frames» = e₂; flips = g })
+    (h₁, record { most_quads = q; whole_quads = e₁; most_frames = f; whole_frames = e₂; flips = g })

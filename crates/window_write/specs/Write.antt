@@ -34,10 +34,10 @@ GoodFlips (material ∷ flip ∷ frames) = (flip ≤ 5) × GoodFlips frames
 
 -- what the checks leave of the lists
 pub record GoodWindow (quads frames : List ℕ) : Type 0 where
-  pub «most_quads» : length quads ≤ 2040
-  pub «whole-quads» : length quads % 8 ≡ 0
-  pub «most-frames» : length frames ≤ 510
-  pub «whole-frames» : length frames % 2 ≡ 0
+  pub most_quads : length quads ≤ 2040
+  pub whole_quads : length quads % 8 ≡ 0
+  pub most_frames : length frames ≤ 510
+  pub whole_frames : length frames % 2 ≡ 0
   pub flips : GoodFlips frames
 
 -- ---- places

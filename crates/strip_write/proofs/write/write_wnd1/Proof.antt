@@ -41,7 +41,7 @@ window-length-requires c κs =
     let e = wnd1_checks _ _ _ _ c.before.before.before.base-checked.ensures own _ _ _ c.before.before.window-checked.ensures in
     let low = place_small (whole (wnd1 _ own) _ [] [] _ []) _ _ _ e _ c.enum_told.given.1 in
     let good = wnd1_good _ _ _ _ _ c.enum_told.given.1 own _ _ e in
-    (omega (arith, low), good.«most_quads», good.«most-frames»)
+    (omega (arith, low), good.most_quads, good.most_frames)
 
 add-n : tie.Need-overflow-add-n
 add-n c = search rules

@@ -1,0 +1,19 @@
+use mathlib.Core.Path.{sym, ◌∙◌}
+use Rattle.pane.proofs.Calls.{start_small}
+use Rattle.alignment.proofs.Calls.{parsed, parsed_refused}
+use Rattle.core_checks.proofs.Checked.{read_numbered}
+use borrow.Author.Rules.{rules}
+use Rattle.alignment.proofs.body.parse.Goals as goal
+
+pub read-requires : goal.read-requires
+read-requires c = start_small _ _ _ (sym c.body_start-p.ensures ∙ c.in-At.is)
+
+pub returns-in-At : goal.returns-in-At
+returns-in-At c =
+    let h = c.read.ensures ∙ parsed _ _ _ _ (sym c.body_start-p.ensures ∙ c.in-At.is) in
+    record { value = h; answer_value = read_numbered h (λ x. x.answer) }
+
+pub returns-in-Refused : goal.returns-in-Refused
+returns-in-Refused c =
+    let h = parsed_refused _ _ _ _ (sym c.body_start-p.ensures ∙ c.in-Refused.is) _ c.refused.ensures in
+    record { value = h; answer_value = read_numbered h (λ x. x.answer) }

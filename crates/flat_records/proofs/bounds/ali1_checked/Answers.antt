@@ -1,0 +1,6 @@
+use borrow.Author.Rules.{rules}
+use Rattle.flat_records.proofs.bounds.below.Reads as below-reads
+use Rattle.flat_records.proofs.bounds.ali1_checked.Goals as goal
+
+pub returns : goal.returns
+returns c = rw (c.below.ensures, c.below-c.ensures)

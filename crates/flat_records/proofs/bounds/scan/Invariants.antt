@@ -1,0 +1,10 @@
+use Prim.Native.Nat.{◌-◌}
+use Rattle.flat_records.proofs.Scanning.{Passed, passed_none, passed_more, passed_bad, passed_all}
+use borrow.Author.Rules.{rules}
+use Rattle.flat_records.proofs.bounds.scan.Given as goal
+
+abbrev pub invariant-loop-i : goal.invariant-loop-i
+invariant-loop-i l = Passed l.w l.from l.count l.bound l.i
+
+abbrev pub decreases-loop-i : goal.decreases-loop-i
+decreases-loop-i l = l.count - l.i

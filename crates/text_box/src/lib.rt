@@ -1,5 +1,6 @@
 // The text box: what is read and written of it beyond the base, and its body calls.
 #![tactic(auto)]
+
 pub mod body;
 
 pub use body::{parse, write};

@@ -1,3 +1,4 @@
 // The section write.
 #![tactic(auto)]
+
 pub mod write;

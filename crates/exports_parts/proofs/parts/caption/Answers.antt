@@ -1,0 +1,17 @@
+use Rattle.exports_parts.proofs.Outcomes.{caption_short, caption_bad, caption_given}
+use borrow.Author.Rules.{rules}
+use Rattle.exports_answers.proofs.answers.bad_word.Reads as bad-word-reads
+use Rattle.exports_answers.proofs.answers.short_record.Reads as short-record-reads
+use Rattle.exports_parts.proofs.parts.caption_part.Reads as caption-part-reads
+use Rattle.exports_parts.proofs.parts.label_of.Reads as label-of-reads
+use Rattle.exports_parts.proofs.parts.record_checked.Reads as record-checked-reads
+use Rattle.exports_parts.proofs.parts.caption.Goals as goal
+
+pub returns-then-words-lt-RECORD_WORDS : goal.returns-then-words-lt-RECORD_WORDS
+returns-then-words-lt-RECORD_WORDS c = caption_short _ _ _ _ c.if-words-lt-RECORD_WORDS.true c.short_record.ensures
+
+pub returns-in-Bad : goal.returns-in-Bad
+returns-in-Bad c = caption_bad _ _ _ _ _ _ c.if-words-lt-RECORD_WORDS.false c.record_checked-c.ensures c.in-Bad.is c.bad_word.ensures
+
+pub returns-in-Good : goal.returns-in-Good
+returns-in-Good c = caption_given _ _ _ _ _ _ c.if-words-lt-RECORD_WORDS.false c.record_checked-c.ensures c.in-Good.is c.label_of-l.ensures c.caption_part.ensures

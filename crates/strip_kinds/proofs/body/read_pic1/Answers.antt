@@ -1,0 +1,8 @@
+use Rattle.strip_kinds.proofs.Bodies.{pic_made}
+use borrow.Author.Rules.{rules}
+use Rattle.picture.proofs.body.read.Reads as read-reads
+use Rattle.strip_kinds.proofs.body.pic1_read.Reads as pic1-read-reads
+use Rattle.strip_kinds.proofs.body.read_pic1.Goals as goal
+
+pub returns : goal.returns
+returns c = record { value = pic_made _ _ _ _ _ _ _ c.read.ensures.value c.pic1_read.ensures; quads_after = c.read.ensures.quads_after }

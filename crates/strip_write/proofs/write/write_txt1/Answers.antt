@@ -1,0 +1,95 @@
+use mathlib.Core.List.{[]}
+use Rattle.strip_records.specs.Whole.{whole, txt1}
+use Rattle.strip_write.proofs.WriteKinds.{txt1_checks, txt1_good, text_length, place_small, fits, stopped, end_made, not_written, txt1_written}
+use native.Mathlib.Omega.{arith}
+use borrow.Author.Rules.{rules}
+use Rattle.core_write.proofs.writer.padding_at.Reads as padding-at-reads
+use Rattle.core_write.proofs.writer.put_zeros.Reads as put-zeros-reads
+use Rattle.strip_write.proofs.write.end_checked.Reads as end-checked-reads
+use Rattle.strip_write.proofs.write.labelled_checked.Reads as labelled-checked-reads
+use Rattle.strip_write.proofs.write.put_header.Reads as put-header-reads
+use Rattle.text_box.proofs.body.put_body.Reads as put-body-reads
+use Rattle.text_box_checks.proofs.text_box_checked.Reads as text-box-checked-reads
+use Rattle.text_box_read.proofs.typed_text_box.Reads as typed-text-box-reads
+use Rattle.text_box_write.proofs.write.text_box_length.Reads as text-box-length-reads
+use Rattle.strip_write.proofs.write.write_txt1.Goals as goal
+
+pub overflow_add-body : goal.overflow_add-body
+overflow_add-body c =
+    let own = c.args.own in
+    let label = c.args.label.now in
+    let e = txt1_checks _ own _ _ label _ _ _ _ c.labelled_checked-p.ensures c.text_box_checked-p.ensures in
+    let low = place_small (whole (txt1 _ own) [] _ _ [] label) _ _ _ e _ c.in-At.is in
+    omega (arith, low)
+
+pub text_box_length-n-requires : goal.text_box_length-n-requires
+text_box_length-n-requires c =
+    let own = c.args.own in
+    let label = c.args.label.now in
+    let e = txt1_checks _ own _ _ label _ _ _ _ c.labelled_checked-p.ensures c.text_box_checked-p.ensures in
+    let low = place_small (whole (txt1 _ own) [] _ _ [] label) _ _ _ e _ c.in-At.is in
+    let good = txt1_good _ _ _ _ _ c.in-At.is own _ _ label e c.typed_text_box.ensures.long in
+    (omega arith, omega (arith, low), good)
+
+pub end_checked-p-requires : goal.end_checked-p-requires
+end_checked-p-requires c =
+    let own = c.args.own in
+    let label = c.args.label.now in
+    let e = txt1_checks _ own _ _ label _ _ _ _ c.labelled_checked-p.ensures c.text_box_checked-p.ensures in
+    (omega (arith, c.text_box_length-n.ensures.1), place_small (whole (txt1 _ own) [] _ _ [] label) _ _ _ e)
+
+pub put_header-requires : goal.put_header-requires
+put_header-requires c =
+    let own = c.args.own in
+    let label = c.args.label.now in
+    let e = txt1_checks _ own _ _ label _ _ _ _ c.labelled_checked-p.ensures c.text_box_checked-p.ensures in
+    let n = text_length _ _ _ _ _ _ c.text_box_length-n.ensures.0 in
+    let (_, room) = fits (whole (txt1 _ own) [] _ _ [] label) _ _ _ e _ _ n c.end_checked-p.ensures _ c.in-At-p.is in
+    (omega (arith, c.text_box_length-n.ensures.1), omega (arith, room))
+
+pub put_body-q-requires : goal.put_body-q-requires
+put_body-q-requires c =
+    let own = c.args.own in
+    let label = c.args.label.now in
+    let e = txt1_checks _ own _ _ label _ _ _ _ c.labelled_checked-p.ensures c.text_box_checked-p.ensures in
+    let n = text_length _ _ _ _ _ _ c.text_box_length-n.ensures.0 in
+    let low = place_small (whole (txt1 _ own) [] _ _ [] label) _ _ _ e _ c.in-At.is in
+    let good = txt1_good _ _ _ _ _ c.in-At.is own _ _ label e c.typed_text_box.ensures.long in
+    let (sound, room) = fits (whole (txt1 _ own) [] _ _ [] label) _ _ _ e _ _ n c.end_checked-p.ensures _ c.in-At-p.is in
+    (sound, omega arith, omega (arith, low), good, omega (arith, room, n))
+
+pub put_zeros-end-requires : goal.put_zeros-end-requires
+put_zeros-end-requires c =
+    let own = c.args.own in
+    let label = c.args.label.now in
+    let e = txt1_checks _ own _ _ label _ _ _ _ c.labelled_checked-p.ensures c.text_box_checked-p.ensures in
+    let n = text_length _ _ _ _ _ _ c.text_box_length-n.ensures.0 in
+    let (_, room) = fits (whole (txt1 _ own) [] _ _ [] label) _ _ _ e _ _ n c.end_checked-p.ensures _ c.in-At-p.is in
+    omega (arith, room, n, c.padding_at-zeros.ensures, c.put_body-q.ensures.place)
+
+pub returns-in-Refused : goal.returns-in-Refused
+returns-in-Refused c =
+    let own = c.args.own in
+    let label = c.args.label.now in
+    let e = txt1_checks _ own _ _ label _ _ _ _ c.labelled_checked-p.ensures c.text_box_checked-p.ensures in
+    let asked = not_written _ (whole (txt1 _ own) [] _ _ [] label) _ _ _ (stopped (whole (txt1 _ own) [] _ _ [] label) _ _ _ e _ c.in-Refused.is) _ c.in-Refused.is in record { value = asked.0; out_after = asked.1 }
+
+pub returns-in-Refused-p : goal.returns-in-Refused-p
+returns-in-Refused-p c =
+    let own = c.args.own in
+    let label = c.args.label.now in
+    let e = txt1_checks _ own _ _ label _ _ _ _ c.labelled_checked-p.ensures c.text_box_checked-p.ensures in
+    let n = text_length _ _ _ _ _ _ c.text_box_length-n.ensures.0 in
+    let asked = not_written _ (whole (txt1 _ own) [] _ _ [] label) _ _ _ (end_made (whole (txt1 _ own) [] _ _ [] label) _ _ _ e _ _ n c.end_checked-p.ensures) _ c.in-Refused-p.is in record { value = asked.0; out_after = asked.1 }
+
+pub returns-in-At-p : goal.returns-in-At-p
+returns-in-At-p c =
+    let own = c.args.own in
+    let label = c.args.label.now in
+    let e = txt1_checks _ own _ _ label _ _ _ _ c.labelled_checked-p.ensures c.text_box_checked-p.ensures in
+    let n = text_length _ _ _ _ _ _ c.text_box_length-n.ensures.0 in
+    let asked = txt1_written _ _ _ _ _ _ c.in-At-p.is
+    c.padding_at-zeros.ensures
+    c.put_zeros-end.ensures own _ _ label (end_made (whole (txt1 _ own) [] _ _ [] label) _ _ _ e _ _ n c.end_checked-p.ensures) n
+    c.put_header.ensures
+    c.put_body-q.ensures in record { value = asked.0; out_after = asked.1 }

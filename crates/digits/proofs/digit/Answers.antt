@@ -1,10 +1,6 @@
 use mathlib.Core.Path.{sym}
 use borrow.Author.Tests.{lt-ltb, le-ltb, le-leb, lt-leb}
 use Rattle.digits.specs.Digits.{refused, line_after, bytes_after}
-use borrow.Author.Rules.{rules}
-use Rattle.digits.proofs.bad_line.Reads as bad-line-reads
-use Rattle.digits.proofs.put_half.Reads as put-half-reads
-use Rattle.digits.proofs.value_of.Reads as value-of-reads
 use Rattle.digits.proofs.digit.Goals as goal
 
 pub returns-then-v-gt15 : goal.returns-then-v-gt15

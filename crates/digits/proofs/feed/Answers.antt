@@ -1,8 +1,6 @@
-use mathlib.Core.Path.{◌≡◌, refl}
-use Prim.Native.Nat.{◌-◌}
-use lib.ListN.{length}
+use mathlib.Core.Path.{refl}
 use native.Mathlib.Omega.{arith}
-use Rattle.digits.proofs.Feeds.{Going, going_on, going_end, left_none, left_fed}
+use Rattle.digits.proofs.Feeds.{going_on, going_end, left_none, left_fed}
 use Rattle.digits.proofs.feed.Goals as goal
 
 pub loop-i-init : goal.loop-i-init

@@ -1,8 +1,7 @@
-use mathlib.Core.Path.{◌≡◌, refl}
+use mathlib.Core.Path.{◌≡◌}
 use Prim.Native.Nat.{◌-◌}
 use lib.ListN.{length}
-use native.Mathlib.Omega.{arith}
-use Rattle.digits.proofs.Feeds.{Going, going_on, going_end, left_none, left_fed}
+use Rattle.digits.proofs.Feeds.{Going}
 use Rattle.digits.proofs.feed.Given as goal
 
 abbrev pub invariant-loop-i : goal.invariant-loop-i

@@ -1,7 +1,5 @@
 use borrow.Author.Tests.{lt-ltb, le-ltb}
 use Rattle.digits.specs.Digits.{half_put}
-use borrow.Author.Rules.{rules}
-use Rattle.digits.proofs.joined.Reads as joined-reads
 use Rattle.digits.proofs.put_half.Goals as goal
 
 pub returns-then-high : goal.returns-then-high

@@ -1,6 +1,5 @@
 use borrow.Author.Tests.{lt-ltb, le-ltb, le-leb, lt-leb}
 use Rattle.digits.specs.Digits.{value_of}
-use borrow.Author.Rules.{rules}
 use Rattle.digits.proofs.value_of.Goals as goal
 
 pub returns-then-b-lt48 : goal.returns-then-b-lt48

@@ -1,0 +1,12 @@
+use Rattle.strip_read.specs.Read.{finished}
+use borrow.Author.Rules.{rules}
+use Rattle.strip_read.proofs.read.refused.Reads as refused-reads
+use Rattle.strip_read.proofs.read.finish.Goals as goal
+
+pub returns-in-Read : goal.returns-in-Read
+unfolding finished
+returns-in-Read c = rw c.in-Read.is
+
+pub returns-in-Refused : goal.returns-in-Refused
+unfolding finished
+returns-in-Refused c = rw c.in-Refused.is c.refused.ensures

@@ -1,0 +1,28 @@
+use Rattle.flat_write.proofs.Writing.{pan1_section, pic1_section, txt1_section, wnd1_section, ali1_section}
+use borrow.Author.Rules.{rules}
+use Rattle.flat_kinds.proofs.ali1.alignment_of.Reads as alignment-of-reads
+use Rattle.flat.proofs.base.base_of.Reads as base-of-reads
+use Rattle.flat_kinds.proofs.pic1.picture_of.Reads as picture-of-reads
+use Rattle.flat_text_box.proofs.txt1.text_box_of.Reads as text-box-of-reads
+use Rattle.flat_kinds.proofs.wnd1.window_of.Reads as window-of-reads
+use Rattle.strip_write.proofs.write.write_ali1.Reads as write-ali1-reads
+use Rattle.strip_write.proofs.write.write_pan1.Reads as write-pan1-reads
+use Rattle.strip_write.proofs.write.write_pic1.Reads as write-pic1-reads
+use Rattle.strip_write.proofs.write.write_txt1.Reads as write-txt1-reads
+use Rattle.strip_write.proofs.write.write_wnd1.Reads as write-wnd1-reads
+use Rattle.flat_write.proofs.sections.write.Goals as goal
+
+pub returns-in-Pan1 : goal.returns-in-Pan1
+returns-in-Pan1 c = let asked = pan1_section _ _ _ _ _ _ _ _ _ _ _ _ _ c.base_of-base.ensures c.in-Pan1.is (c.write_pan1.ensures.value, c.write_pan1.ensures.out_after) in record { value = asked.0; out_after = asked.1 }
+
+pub returns-in-Pic1 : goal.returns-in-Pic1
+returns-in-Pic1 c = let asked = pic1_section _ _ _ _ _ _ _ _ _ _ _ _ _ c.base_of-base.ensures _ c.in-Pic1.is c.picture_of-own.ensures (c.write_pic1.ensures.value, c.write_pic1.ensures.out_after) in record { value = asked.0; out_after = asked.1 }
+
+pub returns-in-Txt1 : goal.returns-in-Txt1
+returns-in-Txt1 c = let asked = txt1_section _ _ _ _ _ _ _ _ _ _ _ _ _ c.base_of-base.ensures _ c.in-Txt1.is c.text_box_of-own.ensures (c.write_txt1.ensures.value, c.write_txt1.ensures.out_after) in record { value = asked.0; out_after = asked.1 }
+
+pub returns-in-Wnd1 : goal.returns-in-Wnd1
+returns-in-Wnd1 c = let asked = wnd1_section _ _ _ _ _ _ _ _ _ _ _ _ _ c.base_of-base.ensures _ c.in-Wnd1.is c.window_of-own.ensures (c.write_wnd1.ensures.value, c.write_wnd1.ensures.out_after) in record { value = asked.0; out_after = asked.1 }
+
+pub returns-in-Ali1 : goal.returns-in-Ali1
+returns-in-Ali1 c = let asked = ali1_section _ _ _ _ _ _ _ _ _ _ _ _ _ c.base_of-base.ensures _ c.in-Ali1.is c.alignment_of-own.ensures (c.write_ali1.ensures.value, c.write_ali1.ensures.out_after) in record { value = asked.0; out_after = asked.1 }

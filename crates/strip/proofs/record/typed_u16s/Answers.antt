@@ -1,0 +1,7 @@
+use Rattle.strip_records.proofs.Bounded.{below_all}
+use borrow.Author.Rules.{rules}
+use Rattle.strip.proofs.record.seen_u16s.Reads as seen-u16s-reads
+use Rattle.strip.proofs.record.typed_u16s.Goals as goal
+
+pub returns : goal.returns
+returns c = below_all _ _ (λ i. (c.shared_slice_known-1.given i).fits)

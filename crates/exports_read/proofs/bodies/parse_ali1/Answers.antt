@@ -1,0 +1,10 @@
+use Rattle.strip_kinds.specs.Body.{body_parsed}
+use Rattle.exports_read.specs.Outcomes.{body_finished}
+use borrow.Author.Rules.{rules}
+use Rattle.alignment.proofs.parse.Reads as parse-reads
+use Rattle.exports_read.proofs.deliver.deliver_ali1.Reads as deliver-ali1-reads
+use Rattle.exports_read.proofs.bodies.parse_ali1.Goals as goal
+
+pub returns : goal.returns
+unfolding body_parsed body_finished
+returns c = λ l. rw (← c.parse-read.ensures.value) (c.deliver_ali1.ensures l)

@@ -1,0 +1,10 @@
+use Rattle.strip_kinds.specs.Body.{body_parsed}
+use Rattle.exports_read.specs.Outcomes.{body_finished}
+use borrow.Author.Rules.{rules}
+use Rattle.exports_read.proofs.deliver.deliver_pic1.Reads as deliver-pic1-reads
+use Rattle.picture.proofs.parse.Reads as parse-reads
+use Rattle.exports_read.proofs.bodies.parse_pic1.Goals as goal
+
+pub returns : goal.returns
+unfolding body_parsed body_finished
+returns c = record { l_after = λ l. rw (← c.parse-read.ensures.value) (c.deliver_pic1.ensures l); quads_after = c.parse-read.ensures.quads_after }

@@ -1,0 +1,10 @@
+use Rattle.strip_kinds.specs.Body.{body_parsed}
+use Rattle.exports_read.specs.Outcomes.{body_finished}
+use borrow.Author.Rules.{rules}
+use Rattle.exports_read.proofs.deliver.deliver_txt1.Reads as deliver-txt1-reads
+use Rattle.text_box.proofs.parse.Reads as parse-reads
+use Rattle.exports_read.proofs.bodies.parse_txt1.Goals as goal
+
+pub returns : goal.returns
+unfolding body_parsed body_finished
+returns c = record { l_after = λ l. rw (← c.parse-read.ensures.reads.0) (c.deliver_txt1.ensures l); units_after = (c.parse-read.ensures.reads.1, c.parse-read.ensures.reads.2) }

@@ -1,0 +1,10 @@
+use Rattle.strip_kinds.specs.Body.{body_read}
+use Rattle.strip_read.specs.Read.{read_body}
+use borrow.Author.Rules.{rules}
+use Rattle.exports_read.proofs.deliver.deliver_txt1.Reads as deliver-txt1-reads
+use Rattle.text_box.proofs.body.read.Reads as read-reads
+use Rattle.exports_read.proofs.sections.read_txt1.Goals as goal
+
+pub returns : goal.returns
+unfolding body_read read_body
+returns c = record { l_after = λ l. rw (← c.read-read.ensures.0) (c.deliver_txt1.ensures l); units_after = (c.read-read.ensures.1, c.read-read.ensures.2) }

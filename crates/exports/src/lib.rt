@@ -1,6 +1,7 @@
 // The calls for C and Rust. A slice crosses as its pointer and its length; a record as the words of layout.rt; an answer as a number and three words, the counts of a record as a number and four.
 // Each call ends, whatever it is handed, and changes nothing where it does not answer PANE, WRITTEN or FILLED, but for the answer's words.
 #![tactic(auto)]
+
 mod calls;
 
 ghost use Rattle.std.specs.Prelude.{◌≡◌};

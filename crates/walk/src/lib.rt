@@ -1,5 +1,6 @@
 // The walk over a strip keeps the strip's bytes with its next place.
 #![tactic(auto)]
+
 ghost use Rattle.std.specs.Prelude.{◌≡◌};
 ghost use Rattle.strip_header.specs.Header.{section_by_number};
 ghost use Rattle.strip_records.specs.Whole.{lists};

@@ -1,0 +1,11 @@
+use Rattle.exports.proofs.Outcomes.{read_short, read_seen_lem}
+use borrow.Author.Rules.{rules}
+use Rattle.exports_answers.proofs.answers.give.Reads as give-reads
+use Rattle.exports_read.proofs.reads.read_body.Reads as read-body-reads
+use Rattle.exports.proofs.bidlomeqa_read_body.Goals as goal
+
+pub returns-then-answer-lt-ANSWER_WORDS : goal.returns-then-answer-lt-ANSWER_WORDS
+returns-then-answer-lt-ANSWER_WORDS c = read_short _ _ _ _ c.if-answer-lt-ANSWER_WORDS.true
+
+pub returns : goal.returns
+returns c = read_seen_lem _ _ _ _ _ _ _ _ _ c.if-answer-lt-ANSWER_WORDS.false c.read_body-x.ensures c.give.ensures

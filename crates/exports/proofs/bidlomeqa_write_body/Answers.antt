@@ -1,0 +1,11 @@
+use Rattle.exports.proofs.Outcomes.{write_short, write_seen_lem}
+use borrow.Author.Rules.{rules}
+use Rattle.exports_answers.proofs.answers.give.Reads as give-reads
+use Rattle.exports.proofs.calls.write_body.Reads as write-body-reads
+use Rattle.exports.proofs.bidlomeqa_write_body.Goals as goal
+
+pub returns-then-answer-lt-ANSWER_WORDS : goal.returns-then-answer-lt-ANSWER_WORDS
+returns-then-answer-lt-ANSWER_WORDS c = write_short _ _ _ c.if-answer-lt-ANSWER_WORDS.true
+
+pub returns : goal.returns
+returns c = write_seen_lem _ _ _ _ _ _ _ c.if-answer-lt-ANSWER_WORDS.false c.write_body-x.ensures c.give.ensures

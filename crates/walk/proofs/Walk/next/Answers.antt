@@ -1,0 +1,13 @@
+use Rattle.std.proofs.Common.{◌≡◌, ap, ◌∙◌}
+use Rattle.strip_read.specs.declared.read.SectionRead.{SectionRead}
+use Rattle.walk.specs.Walk.{place_after, moved_on}
+use Rattle.walk.specs.declared.Walk.{Walk}
+use Rattle.walk.proofs.Walk.next.Goals as goal
+
+pub returns : goal.returns
+unfolding moved_on
+returns c =
+    let w : Walk = c.args.self.now in
+    let read = c.read_section-read.ensures in
+    let place = c.place_of-self.ensures ∙ ap (λ (r : SectionRead). place_after w.place r.answer) read.value in
+    (read.value, read.frames_after, ap (λ n. record { «data» = w.«data»; place = n }) place, read.answer_value)

@@ -1,7 +1,4 @@
 use Rattle.alignment_fields.proofs.Here.{alignment_made}
-use borrow.Author.Rules.{rules}
-use Rattle.core_read.proofs.cursor.Cursor.advanced.Reads as advanced-reads
-use Rattle.core_read.proofs.cursor.u32_at.Reads as u32-at-reads
 use Rattle.alignment_fields.proofs.alignment_at.Goals as goal
 
 pub returns : goal.returns

@@ -2,7 +2,6 @@ use mathlib.Core.Path.{refl, ap}
 use Rattle.core_read.specs.Bytes.{bytes_of}
 use Rattle.core_write.proofs.Puts.{◌then◌, put_as}
 use Rattle.alignment_fields.specs.Alignment.{encode_alignment}
-use borrow.Author.Rules.{rules}
 use Rattle.alignment_fields.proofs.put_alignment.Goals as goal
 
 pub returns : goal.returns

@@ -1,6 +1,3 @@
-use borrow.Author.Rules.{rules}
-use Rattle.alignment_fields.proofs.alignment_at.Reads as alignment-at-reads
-use Rattle.alignment_fields.proofs.take_fields.Reads as take-fields-reads
 use Rattle.alignment_fields.proofs.take_alignment.Goals as goal
 
 pub returns-then-data-at-ge12 : goal.returns-then-data-at-ge12

@@ -1,5 +1,4 @@
 use Rattle.alignment_fields.specs.Alignment.{alignment_taken}
-use borrow.Author.Rules.{rules}
 use Rattle.alignment_fields.proofs.take_fields.Goals as goal
 
 pub returns : goal.returns

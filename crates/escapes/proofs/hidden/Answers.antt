@@ -4,7 +4,6 @@ use mathlib.Core.List.{List}
 use lib.ListN.{length, take, drop, length-drop}
 use lib.Seq.{take_all}
 use native.Mathlib.Omega.{arith}
-use borrow.Author.Rules.{rules}
 use Rattle.escapes.specs.Escaped.{hidden_width, hidden}
 use Rattle.escapes.proofs.hidden.Goals as goal
 

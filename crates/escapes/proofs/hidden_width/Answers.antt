@@ -1,6 +1,5 @@
 use mathlib.Core.Path.{sym}
 use Rattle.escapes.specs.Escaped.{hidden_width}
-use borrow.Author.Rules.{rules}
 use Rattle.escapes.proofs.hidden_width.Goals as goal
 
 pub returns-then-a-b : goal.returns-then-a-b

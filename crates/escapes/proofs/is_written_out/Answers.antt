@@ -1,4 +1,3 @@
-use borrow.Author.Rules.{rules}
 use Rattle.escapes.proofs.is_written_out.Goals as goal
 
 pub returns-then-ascii : goal.returns-then-ascii

@@ -1,12 +1,7 @@
 use Prim.Native.Nat.{◌-◌, ◌≤◌}
-use mathlib.Core.Path.{◌≡◌}
 use lib.ListN.{length}
 use Rattle.core_read.specs.Bytes.{Put}
-use Rattle.core_write.proofs.Puts.{put_none}
-use Rattle.escapes.specs.Escaped.{escaped_up_to, escaped}
-use Rattle.escapes.proofs.Laws.{up_to_short, put_more}
-use native.Mathlib.Omega.{arith}
-use borrow.Author.Rules.{rules}
+use Rattle.escapes.specs.Escaped.{escaped_up_to}
 use Rattle.escapes.proofs.put_escaped.Given as goal
 
 abbrev pub invariant-loop-i : goal.invariant-loop-i

@@ -1,4 +1,3 @@
-use borrow.Author.Rules.{rules}
 use Rattle.escapes.proofs.put_hex_digits.Goals as goal
 
 pub returns : goal.returns

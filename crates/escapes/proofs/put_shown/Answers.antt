@@ -1,5 +1,4 @@
 use Rattle.escapes.proofs.Laws.{shown_out, shown_backslash, shown_plain}
-use borrow.Author.Rules.{rules}
 use Rattle.escapes.proofs.put_shown.Goals as goal
 
 pub returns-then-hide-never : goal.returns-then-hide-never

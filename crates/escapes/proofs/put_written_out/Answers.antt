@@ -1,5 +1,4 @@
 use Rattle.core_write.proofs.Puts.{◌then◌}
-use borrow.Author.Rules.{rules}
 use Rattle.escapes.specs.Escaped.{written_out}
 use Rattle.escapes.proofs.put_written_out.Goals as goal
 

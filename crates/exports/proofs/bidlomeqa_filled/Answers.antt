@@ -1,7 +1,5 @@
 use Rattle.exports.proofs.Outcomes.{filled_short, filled_seen}
-use borrow.Author.Rules.{rules}
 use native.Mathlib.Omega.{arith}
-use Rattle.exports_parts.proofs.counts.counted.Reads as counted-reads
 use Rattle.exports.proofs.bidlomeqa_filled.Goals as goal
 
 pub returns-then-filled-lt-FILLED_WORDS : goal.returns-then-filled-lt-FILLED_WORDS

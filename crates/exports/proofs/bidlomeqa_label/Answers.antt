@@ -1,7 +1,4 @@
 use Rattle.exports.proofs.Outcomes.{part_short, part_seen}
-use borrow.Author.Rules.{rules}
-use Rattle.exports_answers.proofs.answers.give.Reads as give-reads
-use Rattle.exports_parts.proofs.parts.label.Reads as label-reads
 use Rattle.exports.proofs.bidlomeqa_label.Goals as goal
 
 pub returns-then-answer-lt-ANSWER_WORDS : goal.returns-then-answer-lt-ANSWER_WORDS

@@ -1,7 +1,4 @@
 use Rattle.exports.proofs.Outcomes.{read_short, read_seen_lem}
-use borrow.Author.Rules.{rules}
-use Rattle.exports_answers.proofs.answers.give.Reads as give-reads
-use Rattle.exports_read.proofs.reads.read_body.Reads as read-body-reads
 use Rattle.exports.proofs.bidlomeqa_read_body.Goals as goal
 
 pub returns-then-answer-lt-ANSWER_WORDS : goal.returns-then-answer-lt-ANSWER_WORDS

@@ -1,7 +1,4 @@
 use Rattle.exports.proofs.Outcomes.{write_short, write_seen_lem}
-use borrow.Author.Rules.{rules}
-use Rattle.exports_answers.proofs.answers.give.Reads as give-reads
-use Rattle.exports.proofs.calls.write_body.Reads as write-body-reads
 use Rattle.exports.proofs.bidlomeqa_write_body.Goals as goal
 
 pub returns-then-answer-lt-ANSWER_WORDS : goal.returns-then-answer-lt-ANSWER_WORDS

@@ -1,8 +1,5 @@
 use Rattle.core_write.proofs.Puts.{◌then◌}
 use Rattle.pane_read.specs.Pane.{encode_pane}
-use borrow.Author.Rules.{rules}
-use Rattle.pane.proofs.put_head.Reads as put-head-reads
-use Rattle.pane.proofs.put_transform.Reads as put-transform-reads
 use Rattle.pane.proofs.put_pane.Goals as goal
 
 pub returns : goal.returns

@@ -1,13 +1,4 @@
 use Rattle.pane_read.proofs.Run.{pane_run}
-use borrow.Author.Rules.{rules}
-use Rattle.core_read.proofs.cursor.take_u8.Reads as take-u8-reads
-use Rattle.core_read.proofs.text.take_string24.Reads as take-string24-reads
-use Rattle.core_read.proofs.text.take_string8.Reads as take-string8-reads
-use Rattle.flags.proofs.pane.PaneFlags.decode.Reads as pane-PaneFlags-decode-reads
-use Rattle.flags.proofs.pane.PaneFlagsEx.decode.Reads as pane-PaneFlagsEx-decode-reads
-use Rattle.flags.proofs.position.BflytPosition.decode.Reads as position-BflytPosition-decode-reads
-use Rattle.ui2d.proofs.take_vector2.Reads as take-vector2-reads
-use Rattle.ui2d.proofs.take_vector3.Reads as take-vector3-reads
 use Rattle.pane_read.proofs.take_fields.Goals as goal
 
 pub returns : goal.returns

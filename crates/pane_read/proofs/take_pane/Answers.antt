@@ -1,9 +1,5 @@
 use Rattle.pane_read.proofs.Here.{pane_got}
 use native.Mathlib.Omega.{arith}
-use borrow.Author.Rules.{rules}
-use Rattle.core_read.proofs.cursor.Cursor.advanced.Reads as advanced-reads
-use Rattle.pane_read.proofs.pane_at.Reads as pane-at-reads
-use Rattle.pane_read.proofs.take_fields.Reads as take-fields-reads
 use Rattle.pane_read.proofs.take_pane.Goals as goal
 
 pub returns-then-data-at-ge76 : goal.returns-then-data-at-ge76

@@ -1,6 +1,5 @@
 use Rattle.ui2d.specs.Material.{material_taken}
 use Rattle.picture_fields.specs.Picture.{picture_taken}
-use borrow.Author.Rules.{rules}
 use Rattle.picture_fields.proofs.measure_picture.Goals as goal
 
 pub returns : goal.returns

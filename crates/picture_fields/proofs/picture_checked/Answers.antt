@@ -1,5 +1,4 @@
 use Rattle.picture_fields.specs.Picture.{picture_checked}
-use borrow.Author.Rules.{rules}
 use Rattle.picture_fields.proofs.picture_checked.Goals as goal
 
 pub returns : goal.returns

@@ -1,7 +1,6 @@
 use Rattle.picture_fields.specs.Picture.{picture_length}
 use Rattle.picture_fields.proofs.Run.{shape_short}
 use native.Mathlib.Omega.{arith}
-use borrow.Author.Rules.{rules}
 use Rattle.picture_fields.proofs.picture_length.Goals as goal
 
 pub overflow_add-result-2 : goal.overflow_add-result-2

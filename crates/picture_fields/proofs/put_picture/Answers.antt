@@ -2,7 +2,6 @@ use Rattle.core_write.proofs.Puts.{◌then◌}
 use Rattle.picture_fields.specs.Picture.{picture_length}
 use Rattle.picture_fields.proofs.Run.{picture_put}
 use native.Mathlib.Omega.{arith}
-use borrow.Author.Rules.{rules}
 use Rattle.picture_fields.proofs.put_picture.Goals as goal
 
 pub put_colors-q-requires : goal.put_colors-q-requires

@@ -1,5 +1,4 @@
 use Rattle.picture_fields.proofs.Run.{put_absent, put_index, index_room}
-use borrow.Author.Rules.{rules}
 use Rattle.picture_fields.proofs.put_shape.Goals as goal
 
 pub put_u32-requires : goal.put_u32-requires

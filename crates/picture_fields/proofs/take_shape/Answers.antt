@@ -1,6 +1,5 @@
 use borrow.Author.Tests.{eq-eqb, ne_eqb}
 use Rattle.picture_fields.specs.Picture.{shape_taken}
-use borrow.Author.Rules.{rules}
 use Rattle.picture_fields.proofs.take_shape.Goals as goal
 
 pub returns-then-byte-eq0 : goal.returns-then-byte-eq0

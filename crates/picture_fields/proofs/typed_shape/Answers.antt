@@ -1,5 +1,4 @@
 use Rattle.picture_fields.proofs.Run.{typed_absent, typed_index}
-use borrow.Author.Rules.{rules}
 use Rattle.picture_fields.proofs.typed_shape.Goals as goal
 
 pub returns-in-Absent : goal.returns-in-Absent

@@ -7,7 +7,6 @@ use Rattle.core_read.proofs.Runs.{stop_stays}
 use Rattle.utf16.specs.declared.Utf16.{Utf16}
 use Rattle.utf16.specs.declared.Utf16.TheVariants.{WellFormed, Unpaired}
 use Rattle.text_box_checks.specs.Checks.{fault_checked}
-use borrow.Author.Rules.{rules}
 use Rattle.text_box_checks.proofs.fault_checked.Goals as goal
 
 -- a run that was refused stays refused, whatever the units

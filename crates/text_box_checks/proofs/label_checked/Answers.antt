@@ -1,5 +1,4 @@
 use Rattle.text_box_checks.specs.Checks.{label_checked}
-use borrow.Author.Rules.{rules}
 use Rattle.text_box_checks.proofs.label_checked.Goals as goal
 
 pub returns-in-Absent : goal.returns-in-Absent

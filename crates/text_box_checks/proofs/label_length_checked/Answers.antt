@@ -1,5 +1,4 @@
 use Rattle.text_box_checks.specs.Checks.{label_length_checked}
-use borrow.Author.Rules.{rules}
 use Rattle.text_box_checks.proofs.label_length_checked.Goals as goal
 
 pub returns-in-Absent : goal.returns-in-Absent

@@ -1,6 +1,5 @@
 use Rattle.text_box_checks.specs.Checks.{label_name_checked}
 use Rattle.core_read.proofs.Runs.{stop_stays}
-use borrow.Author.Rules.{rules}
 use Rattle.text_box_checks.proofs.label_name_checked.Goals as goal
 
 pub returns-in-At : goal.returns-in-At

@@ -1,5 +1,4 @@
 use Rattle.text_box_checks.specs.Checks.{text_box_checked}
-use borrow.Author.Rules.{rules}
 use Rattle.text_box_checks.proofs.text_box_checked.Goals as goal
 
 pub returns : goal.returns

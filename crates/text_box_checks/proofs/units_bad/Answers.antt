@@ -1,5 +1,4 @@
 use Rattle.text_box_checks.specs.Checks.{units_bad}
-use borrow.Author.Rules.{rules}
 use Rattle.text_box_checks.proofs.units_bad.Goals as goal
 
 pub returns-in-Absent : goal.returns-in-Absent

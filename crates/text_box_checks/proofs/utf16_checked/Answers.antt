@@ -1,6 +1,4 @@
 use Rattle.text_box_checks.specs.Checks.{utf16_checked}
-use borrow.Author.Rules.{rules}
-use Rattle.text_box_checks.proofs.fault_checked.Reads as fault-checked-reads
 use Rattle.text_box_checks.proofs.utf16_checked.Goals as goal
 
 pub returns-in-Absent : goal.returns-in-Absent

@@ -1,5 +1,4 @@
 use Rattle.text_box_read.specs.TextBox.{assembled}
-use borrow.Author.Rules.{rules}
 use Rattle.text_box_read.proofs.assemble.Goals as goal
 
 pub returns : goal.returns

@@ -1,5 +1,4 @@
 use Rattle.text_box_read.specs.TextBox.{blank_text_box}
-use borrow.Author.Rules.{rules}
 use Rattle.text_box_read.proofs.blank_text_box.Goals as goal
 
 pub returns : goal.returns

@@ -1,6 +1,5 @@
 use Rattle.text_box_fixed.specs.Fixed.{fixed_taken}
 use Rattle.text_box_read.specs.TextBox.{text_box_taken}
-use borrow.Author.Rules.{rules}
 use Rattle.text_box_read.proofs.measure_text_box.Goals as goal
 
 pub returns : goal.returns

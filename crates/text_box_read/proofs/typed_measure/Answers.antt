@@ -1,4 +1,3 @@
-use borrow.Author.Rules.{rules}
 use Rattle.text_box_read.proofs.typed_measure.Goals as goal
 
 pub returns-in-Size : goal.returns-in-Size

@@ -1,5 +1,4 @@
 use Rattle.ui2d.specs.Quads.{quad_at}
-use borrow.Author.Rules.{rules}
 use Rattle.ui2d.proofs.load_quad.Goals as goal
 
 pub returns : goal.returns

@@ -1,6 +1,5 @@
 use Rattle.core_write.proofs.Puts.{◌then◌}
 use Rattle.ui2d.specs.Parts.{encode_vector2}
-use borrow.Author.Rules.{rules}
 use Rattle.ui2d.proofs.put_vector2.Goals as goal
 
 pub returns : goal.returns

@@ -1,5 +1,4 @@
 use Rattle.ui2d.proofs.QuadBits.{corners_stored}
-use borrow.Author.Rules.{rules}
 use Rattle.ui2d.proofs.store_quad.Goals as goal
 
 pub returns : goal.returns

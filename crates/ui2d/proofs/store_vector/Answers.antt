@@ -3,7 +3,6 @@ use lib.ListN.{length-set}
 use Rattle.core_read.specs.Bytes.{splice}
 use Rattle.ui2d.specs.Quads.{vector_bits}
 use native.Mathlib.Omega.{arith}
-use borrow.Author.Rules.{rules}
 use Rattle.ui2d.proofs.store_vector.Goals as goal
 
 pub bounds-list-at-2 : goal.bounds-list-at-2

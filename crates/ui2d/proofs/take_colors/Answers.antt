@@ -1,6 +1,5 @@
 use Rattle.ui2d.proofs.Here.{colors_got}
 use native.Mathlib.Omega.{arith}
-use borrow.Author.Rules.{rules}
 use Rattle.ui2d.proofs.take_colors.Goals as goal
 
 pub returns-then-data-at-ge16 : goal.returns-then-data-at-ge16

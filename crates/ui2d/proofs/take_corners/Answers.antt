@@ -1,5 +1,4 @@
 use Rattle.ui2d.specs.Parts.{colors_taken}
-use borrow.Author.Rules.{rules}
 use Rattle.ui2d.proofs.take_corners.Goals as goal
 
 pub returns : goal.returns

@@ -1,5 +1,4 @@
 use Rattle.ui2d.specs.Parts.{vector3_taken}
-use borrow.Author.Rules.{rules}
 use Rattle.ui2d.proofs.take_vector3.Goals as goal
 
 pub returns : goal.returns

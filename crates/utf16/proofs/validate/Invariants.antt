@@ -1,11 +1,8 @@
 use Prim.Native.Nat.{◌≤◌, ◌-◌}
-use mathlib.Core.Path.{◌≡◌, refl, sym, ◌∙◌}
+use mathlib.Core.Path.{◌≡◌}
 use mathlib.Core.Bool.{false}
-use native.Mathlib.Omega.{arith}
-use borrow.Author.Rules.{rules}
 use lib.ListN.{length, drop}
 use Rattle.utf16.specs.Utf16.{utf16_of, scan}
-use Rattle.utf16.proofs.Scan.{scan_out, scan_low, scan_single, scan_end, scan_lone, scan_pair}
 use Rattle.utf16.proofs.validate.Given as goal
 
 -- The scan of what is left at i gives the answer for the whole; a law of Scan for each way on.

@@ -1,9 +1,7 @@
 use Prim.Native.Nat.{◌-◌}
-use mathlib.Core.Path.{◌≡◌, refl, sym, ◌∙◌}
-use borrow.Author.Rules.{rules}
+use mathlib.Core.Path.{◌≡◌}
 use lib.ListN.{length}
 use Rattle.utf8.specs.Utf8.{ascii_end}
-use Rattle.utf8.proofs.Walk.{ascii_stop, ascii_next, ascii_out}
 use Rattle.utf8.proofs.ascii_end.Given as goal
 
 -- The run of ASCII bytes from `at` ends where the run from i ends.

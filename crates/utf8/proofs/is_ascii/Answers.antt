@@ -1,9 +1,5 @@
 use Prim.Native.Nat.{◌-◌}
-use mathlib.Core.Path.{◌≡◌, refl, sym, ◌∙◌}
-use mathlib.Core.Bool.{not, ◌&&◌}
-use borrow.Author.Rules.{rules}
-use lib.ListN.{length, drop}
-use Rattle.utf8.specs.Utf8.{is_ascii}
+use mathlib.Core.Path.{refl, sym, ◌∙◌}
 use Rattle.utf8.proofs.Ascii.{low_step, low_out}
 use Rattle.utf8.proofs.is_ascii.Goals as goal
 

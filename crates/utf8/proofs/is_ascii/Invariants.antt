@@ -1,10 +1,8 @@
 use Prim.Native.Nat.{◌-◌}
-use mathlib.Core.Path.{◌≡◌, refl, sym, ◌∙◌}
+use mathlib.Core.Path.{◌≡◌}
 use mathlib.Core.Bool.{not, ◌&&◌}
-use borrow.Author.Rules.{rules}
 use lib.ListN.{length, drop}
 use Rattle.utf8.specs.Utf8.{is_ascii}
-use Rattle.utf8.proofs.Ascii.{low_step, low_out}
 use Rattle.utf8.proofs.is_ascii.Given as goal
 
 -- The whole is ASCII where no byte before i was high and the bytes from i on are ASCII.

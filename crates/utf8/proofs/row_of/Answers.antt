@@ -1,9 +1,8 @@
-use Prim.Native.Nat.{◌≤◌, ◌<◌, ◌-◌}
-use mathlib.Core.Path.{◌≡◌, refl, sym, ◌∙◌}
+use Prim.Native.Nat.{◌<◌, ◌-◌}
+use mathlib.Core.Path.{refl, sym, ◌∙◌}
 use native.Mathlib.Omega.{arith}
-use borrow.Author.Rules.{rules}
-use lib.ListN.{length, drop}
-use Rattle.utf8.specs.Utf8.{table, no_row, takes, row_of}
+use lib.ListN.{length}
+use Rattle.utf8.specs.Utf8.{table, no_row, takes}
 use Rattle.utf8.proofs.Rows.{any_default, search_hit, search_miss, search_out}
 use Rattle.utf8.proofs.row_of.Goals as goal
 

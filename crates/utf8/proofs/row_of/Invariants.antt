@@ -1,10 +1,7 @@
-use Prim.Native.Nat.{◌≤◌, ◌<◌, ◌-◌}
-use mathlib.Core.Path.{◌≡◌, refl, sym, ◌∙◌}
-use native.Mathlib.Omega.{arith}
-use borrow.Author.Rules.{rules}
-use lib.ListN.{length, drop}
-use Rattle.utf8.specs.Utf8.{table, no_row, takes, row_of}
-use Rattle.utf8.proofs.Rows.{any_default, search_hit, search_miss, search_out}
+use Prim.Native.Nat.{◌≤◌, ◌-◌}
+use mathlib.Core.Path.{◌≡◌}
+use lib.ListN.{drop}
+use Rattle.utf8.specs.Utf8.{table, row_of}
 use Rattle.utf8.proofs.row_of.Given as goal
 
 -- The loop has passed the rows that do not take b: the search from row i on decides.

@@ -1,11 +1,8 @@
 use Prim.Native.Nat.{◌≤◌, ◌-◌}
 use mathlib.Core.Path.{◌≡◌}
 use mathlib.Core.Bool.{true}
-use native.Mathlib.Omega.{arith}
-use borrow.Author.Rules.{rules}
 use lib.ListN.{drop}
 use Rattle.utf8.specs.Utf8.{fits}
-use Rattle.utf8.proofs.Rows.{at_small, at_none, at_short, at_good, at_first, at_more, at_bad}
 use Rattle.utf8.proofs.sequence_at.Given as goal
 
 -- The first j bytes fit the row; at-bad and at-good, of Rows, say what that makes of the whole.

@@ -1,8 +1,6 @@
 use Prim.Native.Nat.{◌-◌}
-use native.Mathlib.Omega.{arith}
-use borrow.Author.Rules.{rules}
 use lib.ListN.{length}
-use Rattle.utf8.proofs.Walk.{Walked, walked_none, walked_ascii, walked_more, walked_stuck, walked_all}
+use Rattle.utf8.proofs.Walk.{Walked}
 use Rattle.utf8.proofs.well_formed.Given as goal
 
 -- What is left of s at `at` decides (Walked): a sequence, then a run of ASCII bytes.

@@ -1,5 +1,4 @@
 use Rattle.walk.specs.Walk.{place_after}
-use borrow.Author.Rules.{rules}
 use Rattle.walk.proofs.place_after.Goals as goal
 
 pub returns-in-End : goal.returns-in-End

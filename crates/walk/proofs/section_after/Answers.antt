@@ -1,9 +1,6 @@
 use mathlib.Core.Path.{ap}
 use Rattle.strip_header.specs.Header.{section_by_number}
 use Rattle.walk.proofs.Steps.{step_made}
-use borrow.Author.Rules.{rules}
-use Rattle.strip_read.proofs.read.read_section.Reads as read-section-reads
-use Rattle.walk.proofs.place_after.Reads as place-after-reads
 use Rattle.walk.proofs.section_after.Goals as goal
 
 pub returns : goal.returns

@@ -1,9 +1,4 @@
 use Rattle.window_head.proofs.Here.{head_made}
-use borrow.Author.Rules.{rules}
-use Rattle.core_read.proofs.cursor.Cursor.advanced.Reads as advanced-reads
-use Rattle.core_read.proofs.cursor.u32_at.Reads as u32-at-reads
-use Rattle.flags.proofs.window.WindowFlags.decode.Reads as decode-reads
-use Rattle.window_head.proofs.sides_at.Reads as sides-at-reads
 use Rattle.window_head.proofs.head_at.Goals as goal
 
 pub returns : goal.returns

@@ -1,7 +1,5 @@
 use Rattle.window_head.proofs.Here.{sides_made}
 use borrow.Author.Rules.{rules}
-use Rattle.core_read.proofs.cursor.u16_at.Reads as u16-at-reads
-use Rattle.core_read.proofs.signed.signed_of.Reads as signed-of-reads
 use Rattle.window_head.proofs.sides_at.Goals as goal
 
 pub returns : goal.returns

@@ -1,5 +1,4 @@
 use Rattle.window_head.specs.Head.{head_taken}
-use borrow.Author.Rules.{rules}
 use Rattle.window_head.proofs.take_fields.Goals as goal
 
 pub returns : goal.returns

@@ -1,6 +1,3 @@
-use borrow.Author.Rules.{rules}
-use Rattle.window_head.proofs.head_at.Reads as head-at-reads
-use Rattle.window_head.proofs.take_fields.Reads as take-fields-reads
 use Rattle.window_head.proofs.take_head.Goals as goal
 
 pub returns-then-data-at-ge28 : goal.returns-then-data-at-ge28

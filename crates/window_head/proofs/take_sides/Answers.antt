@@ -1,5 +1,4 @@
 use Rattle.window_head.proofs.Signed.{sides_run}
-use borrow.Author.Rules.{rules}
 use Rattle.window_head.proofs.take_sides.Goals as goal
 
 pub returns : goal.returns

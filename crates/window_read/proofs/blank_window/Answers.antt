@@ -1,5 +1,4 @@
 use Rattle.window_read.specs.Window.{blank_window}
-use borrow.Author.Rules.{rules}
 use Rattle.window_read.proofs.blank_window.Goals as goal
 
 pub returns : goal.returns

@@ -2,7 +2,6 @@ use mathlib.Core.Path.{sym, ◌∙◌}
 use Rattle.pane.proofs.Calls.{start_small}
 use Rattle.alignment.proofs.Calls.{parsed, parsed_refused}
 use Rattle.core_checks.proofs.Checked.{read_numbered}
-use borrow.Author.Rules.{rules}
 use Rattle.alignment.proofs.body.parse.Goals as goal
 
 pub read-requires : goal.read-requires

@@ -3,7 +3,6 @@ use Rattle.core_checks.proofs.Checked.{wrote, not_wrote, write_numbered}
 use Rattle.alignment.specs.Body.{alignment_written, alignment_output}
 use Rattle.pane.proofs.Cleared.{sound}
 use Rattle.alignment.proofs.Cleared.{write_cleared}
-use borrow.Author.Rules.{rules}
 use Rattle.alignment.proofs.body.write.Goals as goal
 
 pub put_body-end-requires : goal.put_body-end-requires

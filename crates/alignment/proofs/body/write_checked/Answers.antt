@@ -1,7 +1,6 @@
 use Rattle.alignment.specs.Body.{alignment_write_checked}
 use Rattle.pane.proofs.Cleared.{end_small}
 use lib.Dec.{lit<}
-use borrow.Author.Rules.{rules}
 use Rattle.alignment.proofs.body.write_checked.Goals as goal
 
 pub end_checked-requires : goal.end_checked-requires

@@ -1,5 +1,4 @@
 use Rattle.core_checks.specs.Checks.{body_start}
-use borrow.Author.Rules.{rules}
 use Rattle.core_checks.proofs.checks.body_start.Goals as goal
 
 pub returns : goal.returns

@@ -1,7 +1,6 @@
 use mathlib.Core.Path.{◌∙◌}
 use Rattle.core_checks.proofs.Checked.{end_here, end_stays}
 use native.Mathlib.Omega.{arith}
-use borrow.Author.Rules.{rules}
 use Rattle.core_checks.proofs.checks.end_checked.Goals as goal
 
 pub overflow_add-end : goal.overflow_add-end

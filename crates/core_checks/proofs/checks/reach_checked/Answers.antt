@@ -1,7 +1,5 @@
 use mathlib.Core.Path.{◌∙◌}
 use Rattle.core_checks.proofs.Checked.{reach_here, reach_free, reach_refused}
-use borrow.Author.Rules.{rules}
-use Rattle.core_read.proofs.cursor.stop_if.Reads as stop-if-reads
 use Rattle.core_checks.proofs.checks.reach_checked.Goals as goal
 
 pub returns-in-Section : goal.returns-in-Section

@@ -1,7 +1,6 @@
 use mathlib.Core.Path.{ap, ◌∙◌}
 use Rattle.core_read.specs.declared.cursor.Place.TheVariants.{At}
 use Rattle.core_read.proofs.Runs.{seek_got, seek_beyond, seek_stays}
-use borrow.Author.Rules.{rules}
 use Rattle.core_read.proofs.cursor.seek.Goals as goal
 
 pub returns-then-to-data : goal.returns-then-to-data

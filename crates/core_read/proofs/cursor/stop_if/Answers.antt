@@ -1,5 +1,4 @@
 use Rattle.core_read.proofs.Runs.{stop_here, stop_not, stop_stays}
-use borrow.Author.Rules.{rules}
 use Rattle.core_read.proofs.cursor.stop_if.Goals as goal
 
 pub returns-then-bad : goal.returns-then-bad

@@ -2,7 +2,6 @@ use mathlib.Core.Path.{ap}
 use Rattle.core_read.proofs.Runs.{got, short, stays}
 use Rattle.core_read.specs.Taken.{as_u32}
 use native.Mathlib.Omega.{arith}
-use borrow.Author.Rules.{rules}
 use Rattle.core_read.proofs.cursor.take_u32.Goals as goal
 
 pub returns-then-data-at-ge4 : goal.returns-then-data-at-ge4

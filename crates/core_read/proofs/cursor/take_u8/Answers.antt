@@ -3,7 +3,6 @@ use Rattle.core_read.proofs.Runs.{got, short, stays}
 use Rattle.core_read.proofs.Numbers.{one}
 use Rattle.core_read.specs.Taken.{as_u8}
 use native.Mathlib.Omega.{arith}
-use borrow.Author.Rules.{rules}
 use Rattle.core_read.proofs.cursor.take_u8.Goals as goal
 
 pub returns-then-at-data : goal.returns-then-at-data

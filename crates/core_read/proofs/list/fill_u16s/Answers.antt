@@ -1,6 +1,5 @@
 use Prim.Native.Nat.{◌-◌}
-use Rattle.core_read.proofs.Lists.{Filled, filled_none, filled_more, filled_all}
-use borrow.Author.Rules.{rules}
+use Rattle.core_read.proofs.Lists.{filled_none, filled_more, filled_all}
 use Rattle.core_read.proofs.list.fill_u16s.Goals as goal
 
 pub loop-i-init : goal.loop-i-init

@@ -1,6 +1,5 @@
 use Prim.Native.Nat.{◌-◌}
-use Rattle.core_read.proofs.Lists.{Filled, filled_none, filled_more, filled_all}
-use borrow.Author.Rules.{rules}
+use Rattle.core_read.proofs.Lists.{Filled}
 use Rattle.core_read.proofs.list.fill_u16s.Given as goal
 
 abbrev pub invariant-loop-i : goal.invariant-loop-i

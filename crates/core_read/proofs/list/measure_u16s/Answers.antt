@@ -1,7 +1,6 @@
 use Rattle.core_read.proofs.Lists.{measured, measured_none, measured_short, measured_beyond, measured_stays}
 use mathlib.Core.Path.{refl}
 use native.Mathlib.Omega.{arith}
-use borrow.Author.Rules.{rules}
 use Rattle.core_read.proofs.list.measure_u16s.Goals as goal
 
 pub returns-then-n-eq0 : goal.returns-then-n-eq0

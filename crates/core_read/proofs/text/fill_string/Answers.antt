@@ -1,7 +1,5 @@
 use Prim.Native.Nat.{◌-◌}
-use lib.ListN.{length}
-use Rattle.core_read.proofs.Strings.{Copied, copied_none, copied_more, copied_nul, copied_all}
-use borrow.Author.Rules.{rules}
+use Rattle.core_read.proofs.Strings.{copied_none, copied_more, copied_nul, copied_all}
 use native.Mathlib.Omega.{arith}
 use Rattle.core_read.proofs.text.fill_string.Goals as goal
 

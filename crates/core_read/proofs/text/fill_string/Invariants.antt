@@ -1,8 +1,6 @@
 use Prim.Native.Nat.{◌-◌}
 use lib.ListN.{length}
-use Rattle.core_read.proofs.Strings.{Copied, copied_none, copied_more, copied_nul, copied_all}
-use borrow.Author.Rules.{rules}
-use native.Mathlib.Omega.{arith}
+use Rattle.core_read.proofs.Strings.{Copied}
 use Rattle.core_read.proofs.text.fill_string.Given as goal
 
 abbrev pub invariant-loop-i : goal.invariant-loop-i

@@ -1,9 +1,7 @@
 use borrow.Author.Tests.{eq-eqb, ne_eqb}
 use native.Mathlib.Omega.{arith}
-use mathlib.Core.Path.{◌≡◌, refl, sym, ◌∙◌}
-use Prim.Native.Nat.{◌≤◌, ◌-◌}
-use lib.ListN.{length, drop}
-use Rattle.core_read.specs.Taken.{has_zero}
+use mathlib.Core.Path.{refl, sym, ◌∙◌}
+use Prim.Native.Nat.{◌-◌}
 use Rattle.core_read.proofs.Strings.{zero_step, zero_none}
 use Rattle.core_read.proofs.text.has_zero.Goals as goal
 

@@ -1,5 +1,4 @@
 use Rattle.core_read.proofs.Here.{part_to}
-use borrow.Author.Rules.{rules}
 use Rattle.core_read.proofs.text.string24_at.Goals as goal
 
 pub returns : goal.returns

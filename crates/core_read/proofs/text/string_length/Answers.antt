@@ -1,7 +1,5 @@
-use Prim.Native.Nat.{ℕ, ◌≤◌, ◌<◌, ◌-◌}
-use mathlib.Core.Path.{◌≡◌}
+use Prim.Native.Nat.{◌-◌}
 use borrow.Author.Count.{below_more}
-use lib.ListN.{length, get_or}
 use Rattle.core_read.proofs.Strings.{ends, ends_not}
 use borrow.Author.Rules.{rules}
 use Rattle.core_read.proofs.text.string_length.Goals as goal

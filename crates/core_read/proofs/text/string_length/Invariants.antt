@@ -1,9 +1,6 @@
 use Prim.Native.Nat.{ℕ, ◌≤◌, ◌<◌, ◌-◌}
 use mathlib.Core.Path.{◌≡◌}
-use borrow.Author.Count.{below_more}
 use lib.ListN.{length, get_or}
-use Rattle.core_read.proofs.Strings.{ends, ends_not}
-use borrow.Author.Rules.{rules}
 use Rattle.core_read.proofs.text.string_length.Given as goal
 
 abbrev pub invariant-loop-i : goal.invariant-loop-i

@@ -1,6 +1,5 @@
 use Rattle.core_read.proofs.Strings.{label_got, label_none, label_beyond, label_stays}
 use native.Mathlib.Omega.{arith}
-use borrow.Author.Rules.{rules}
 use Rattle.core_read.proofs.text.take_label.Goals as goal
 
 pub returns-then-count-data : goal.returns-then-count-data

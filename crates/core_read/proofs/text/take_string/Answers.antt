@@ -1,6 +1,5 @@
 use mathlib.Core.Path.{refl}
 use Rattle.core_read.proofs.Runs.{string_got, string_short, string_stays}
-use borrow.Author.Rules.{rules}
 use Rattle.core_read.proofs.text.take_string.Goals as goal
 
 pub returns-then-at-data : goal.returns-then-at-data

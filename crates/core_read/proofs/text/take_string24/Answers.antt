@@ -1,5 +1,4 @@
 use Rattle.core_read.specs.Taken.{string24_taken}
-use borrow.Author.Rules.{rules}
 use Rattle.core_read.proofs.text.take_string24.Goals as goal
 
 pub returns : goal.returns

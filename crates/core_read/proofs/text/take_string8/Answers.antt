@@ -1,5 +1,4 @@
 use Rattle.core_read.specs.Taken.{string8_taken}
-use borrow.Author.Rules.{rules}
 use Rattle.core_read.proofs.text.take_string8.Goals as goal
 
 pub returns : goal.returns

@@ -2,7 +2,6 @@ use mathlib.Core.Path.{refl}
 use lib.ListN.{length-set}
 use Rattle.core_read.specs.Bytes.{splice}
 use native.Mathlib.Omega.{arith}
-use borrow.Author.Rules.{rules}
 use Rattle.core_write.proofs.writer.put_byte.Goals as goal
 
 pub returns : goal.returns

@@ -1,8 +1,7 @@
 use mathlib.Core.Path.{refl, sym}
 use Prim.Native.Nat.{◌-◌, ◌≤◌, ◌<◌}
-use lib.ListN.{length, take}
+use lib.ListN.{length}
 use lib.Seq.{take_all}
-use Rattle.core_read.specs.Bytes.{Put}
 use Rattle.core_write.proofs.Puts.{◌then◌, put_none, put_as, take_more}
 use native.Mathlib.Omega.{arith}
 use Rattle.core_write.proofs.writer.put_bytes.Goals as goal

@@ -1,10 +1,6 @@
-use mathlib.Core.Path.{refl, sym}
-use Prim.Native.Nat.{◌-◌, ◌≤◌, ◌<◌}
+use Prim.Native.Nat.{◌-◌, ◌≤◌}
 use lib.ListN.{length, take}
-use lib.Seq.{take_all}
 use Rattle.core_read.specs.Bytes.{Put}
-use Rattle.core_write.proofs.Puts.{◌then◌, put_none, put_as, take_more}
-use native.Mathlib.Omega.{arith}
 use Rattle.core_write.proofs.writer.put_bytes.Given as goal
 
 abbrev pub invariant-loop-i : goal.invariant-loop-i

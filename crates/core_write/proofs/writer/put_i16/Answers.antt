@@ -2,7 +2,6 @@ use mathlib.Core.Path.{refl, ap, ◌∙◌}
 use mir.Facts.{to_z-of_z}
 use Rattle.core_read.specs.Bytes.{bytes_of, bits_of}
 use Rattle.core_write.proofs.Puts.{put_as}
-use borrow.Author.Rules.{rules}
 use Rattle.core_write.proofs.writer.put_i16.Goals as goal
 
 pub returns : goal.returns

@@ -1,4 +1,3 @@
-use borrow.Author.Rules.{rules}
 use Rattle.core_write.proofs.writer.put_padding.Goals as goal
 
 pub returns : goal.returns

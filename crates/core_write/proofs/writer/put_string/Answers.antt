@@ -1,6 +1,5 @@
 use Rattle.core_write.proofs.Puts.{put_fixed}
 use native.Mathlib.Omega.{arith}
-use borrow.Author.Rules.{rules}
 use Rattle.core_write.proofs.writer.put_string.Goals as goal
 
 pub returns : goal.returns

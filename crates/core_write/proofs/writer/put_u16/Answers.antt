@@ -1,5 +1,4 @@
 use Rattle.core_write.proofs.Swapped.{put_swapped}
-use borrow.Author.Rules.{rules}
 use Rattle.core_write.proofs.writer.put_u16.Goals as goal
 
 pub returns-in-Little : goal.returns-in-Little

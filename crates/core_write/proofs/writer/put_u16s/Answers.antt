@@ -1,10 +1,9 @@
 use mathlib.Core.Path.{sym, ap}
-use Prim.Native.Nat.{◌-◌, ◌*◌, ◌≤◌, ◌<◌}
-use lib.ListN.{length, take}
+use Prim.Native.Nat.{◌-◌, ◌≤◌, ◌<◌}
+use lib.ListN.{length}
 use lib.Seq.{take_all}
-use Rattle.core_read.specs.Bytes.{Put, bytes_of_all}
+use Rattle.core_read.specs.Bytes.{bytes_of_all}
 use Rattle.core_write.proofs.Puts.{◌then◌, put_none, put_as, all_more}
-use borrow.Author.Rules.{rules}
 use native.Mathlib.Omega.{arith}
 use Rattle.core_write.proofs.writer.put_u16s.Goals as goal
 

@@ -1,7 +1,5 @@
 use mathlib.Core.Path.{◌≡◌, refl, sym}
-use Prim.Native.Nat.{◌-◌, ◌≤◌}
-use lib.ListN.{replicate}
-use Rattle.core_read.specs.Bytes.{Put}
+use Prim.Native.Nat.{◌-◌}
 use Rattle.core_write.proofs.Puts.{◌then◌, put_none, put_as, replicate_more}
 use native.Mathlib.Omega.{arith}
 use Rattle.core_write.proofs.writer.put_zeros.Goals as goal

@@ -1,6 +1,5 @@
 use Rattle.core_read.specs.Bytes.{bytes_of, le}
 use native.Mathlib.Omega.{arith}
-use borrow.Author.Rules.{rules}
 use Rattle.core_write.proofs.writer.swap_bytes16.Goals as goal
 
 pub returns : goal.returns

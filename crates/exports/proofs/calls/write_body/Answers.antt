@@ -1,7 +1,6 @@
 use mathlib.Core.Path.{sym, ◌∙◌}
 use Rattle.exports.proofs.Outcomes.{written_other, written_short, written_bad, body_written_lem}
 use Rattle.exports.specs.Calls.{body_written}
-use borrow.Author.Rules.{rules}
 use Rattle.exports.proofs.calls.write_body.Goals as goal
 
 pub returns-in_default : goal.returns-in_default

@@ -3,7 +3,6 @@ use Rattle.exports_answers.specs.Answers.{given}
 use mathlib.Core.Path.{refl}
 use lib.ListN.{length-set}
 use native.Mathlib.Omega.{arith}
-use borrow.Author.Rules.{rules}
 use Rattle.exports_answers.proofs.answers.give.Goals as goal
 
 pub bounds-answer-1 : goal.bounds-answer-1

@@ -1,5 +1,3 @@
-use borrow.Author.Rules.{rules}
-use Rattle.exports_answers.proofs.answers.refused.Reads as refused-reads
 use Rattle.exports_answers.proofs.answers.section.Goals as goal
 
 pub returns-in-End : goal.returns-in-End

@@ -1,11 +1,4 @@
 use Rattle.exports_parts.proofs.Counted.{counted_short, counted_bad, counted_good}
-use borrow.Author.Rules.{rules}
-use Rattle.exports_answers.proofs.answers.bad_word.Reads as bad-word-reads
-use Rattle.exports_answers.proofs.answers.give.Reads as give-reads
-use Rattle.exports_answers.proofs.answers.short_record.Reads as short-record-reads
-use Rattle.exports_parts.proofs.counts.counts_checked.Reads as counts-checked-reads
-use Rattle.exports_parts.proofs.counts.put_counts.Reads as put-counts-reads
-use Rattle.flat_records.proofs.records.kind_of.Reads as kind-of-reads
 use Rattle.exports_parts.proofs.counts.counted.Goals as goal
 
 pub returns-then-words-lt-RECORD_WORDS : goal.returns-then-words-lt-RECORD_WORDS

@@ -1,5 +1,3 @@
-use borrow.Author.Rules.{rules}
-use Rattle.flat_records.proofs.bounds.below.Reads as below-reads
 use Rattle.exports_parts.proofs.counts.counts_checked.Goals as goal
 
 pub returns-in-Pan1 : goal.returns-in-Pan1

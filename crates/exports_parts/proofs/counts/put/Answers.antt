@@ -2,7 +2,6 @@ use Rattle.core_read.specs.Bytes.{splice}
 use mathlib.Core.Path.{refl}
 use lib.ListN.{length-set}
 use native.Mathlib.Omega.{arith}
-use borrow.Author.Rules.{rules}
 use Rattle.exports_parts.proofs.counts.put.Goals as goal
 
 pub bounds-out-1 : goal.bounds-out-1

@@ -1,11 +1,5 @@
 use Rattle.flat_records.specs.Records.{record_by}
 use Rattle.exports_parts.proofs.Counted.{picture_counted}
-use borrow.Author.Rules.{rules}
-use Rattle.exports_parts.proofs.counts.put.Reads as put_reads
-use Rattle.exports_parts.proofs.counts.put_txt1.Reads as put-txt1-reads
-use Rattle.exports_parts.proofs.counts.put_wnd1.Reads as put-wnd1-reads
-use Rattle.flat.proofs.words.byte_at.Reads as byte-at-reads
-use Rattle.strip_records.proofs.filled.quads_of.Reads as quads-of-reads
 use Rattle.exports_parts.proofs.counts.put_counts.Goals as goal
 
 pub returns-in-Pan1 : goal.returns-in-Pan1

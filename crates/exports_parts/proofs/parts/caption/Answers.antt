@@ -1,10 +1,4 @@
 use Rattle.exports_parts.proofs.Outcomes.{caption_short, caption_bad, caption_given}
-use borrow.Author.Rules.{rules}
-use Rattle.exports_answers.proofs.answers.bad_word.Reads as bad-word-reads
-use Rattle.exports_answers.proofs.answers.short_record.Reads as short-record-reads
-use Rattle.exports_parts.proofs.parts.caption_part.Reads as caption-part-reads
-use Rattle.exports_parts.proofs.parts.label_of.Reads as label-of-reads
-use Rattle.exports_parts.proofs.parts.record_checked.Reads as record-checked-reads
 use Rattle.exports_parts.proofs.parts.caption.Goals as goal
 
 pub returns-then-words-lt-RECORD_WORDS : goal.returns-then-words-lt-RECORD_WORDS

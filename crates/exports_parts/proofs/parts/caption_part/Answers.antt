@@ -1,7 +1,5 @@
 use mathlib.Core.Path.{◌∙◌}
 use Rattle.exports_parts.proofs.Outcomes.{caption_in, caption_beyond, caption_outside}
-use borrow.Author.Rules.{rules}
-use Rattle.exports_answers.proofs.answers.part.Reads as part-reads
 use Rattle.exports_parts.proofs.parts.caption_part.Goals as goal
 
 pub returns-then-strip-place : goal.returns-then-strip-place

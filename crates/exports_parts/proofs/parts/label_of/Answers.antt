@@ -1,6 +1,4 @@
 use borrow.Author.Tests.{eq-eqb, ne_eqb}
-use borrow.Author.Rules.{rules}
-use Rattle.flat_text_box.proofs.txt1.label_of.Reads as label-of-reads
 use Rattle.exports_parts.proofs.parts.label_of.Goals as goal
 
 pub returns-then-words-eq2 : goal.returns-then-words-eq2

@@ -1,7 +1,5 @@
 use mathlib.Core.Path.{◌∙◌}
 use Rattle.exports_parts.proofs.Outcomes.{label_in, label_beyond, label_outside}
-use borrow.Author.Rules.{rules}
-use Rattle.exports_answers.proofs.answers.part.Reads as part-reads
 use Rattle.exports_parts.proofs.parts.label_part.Goals as goal
 
 pub returns-then-data-place : goal.returns-then-data-place

@@ -2,12 +2,6 @@ use Rattle.strip_kinds.specs.Body.{body_parsed, lists_parsed}
 use Rattle.exports_read.specs.Outcomes.{body_finished}
 use mathlib.Core.Path.{refl}
 use Rattle.exports_read.proofs.Reading.{parsed_as}
-use borrow.Author.Rules.{rules}
-use Rattle.exports_read.proofs.bodies.parse_ali1.Reads as parse-ali1-reads
-use Rattle.exports_read.proofs.bodies.parse_pan1.Reads as parse-pan1-reads
-use Rattle.exports_read.proofs.bodies.parse_pic1.Reads as parse-pic1-reads
-use Rattle.exports_read.proofs.bodies.parse_txt1.Reads as parse-txt1-reads
-use Rattle.exports_read.proofs.bodies.parse_wnd1.Reads as parse-wnd1-reads
 use Rattle.exports_read.proofs.bodies.parse_kind.Goals as goal
 
 pub returns-in-Pan1 : goal.returns-in-Pan1

@@ -1,8 +1,5 @@
 use Rattle.strip_kinds.specs.Body.{body_parsed}
 use Rattle.exports_read.specs.Outcomes.{body_finished}
-use borrow.Author.Rules.{rules}
-use Rattle.exports_read.proofs.deliver.deliver_pic1.Reads as deliver-pic1-reads
-use Rattle.picture.proofs.parse.Reads as parse-reads
 use Rattle.exports_read.proofs.bodies.parse_pic1.Goals as goal
 
 pub returns : goal.returns

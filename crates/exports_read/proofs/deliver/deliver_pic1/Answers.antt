@@ -1,8 +1,4 @@
 use Rattle.exports_read.proofs.Reading.{deliver_read, deliver_refused}
-use borrow.Author.Rules.{rules}
-use Rattle.exports_answers.proofs.answers.refused.Reads as refused-reads
-use Rattle.exports_answers.proofs.answers.section.Reads as section-reads
-use Rattle.flat_records.proofs.records.put_pic1.Reads as put-pic1-reads
 use Rattle.exports_read.proofs.deliver.deliver_pic1.Goals as goal
 
 pub returns-in-Read : goal.returns-in-Read

@@ -4,12 +4,6 @@ use Rattle.strip_records.specs.Whole.{lists}
 use Rattle.strip_read.specs.Read.{read_body}
 use Rattle.strip_read.proofs.Steps.{header_refused, header_size, header_kind, header_other}
 use Rattle.exports_read.proofs.Reading.{refused_so, passed_so, delivered_on}
-use borrow.Author.Rules.{rules}
-use Rattle.exports_answers.proofs.answers.refused.Reads as refused-reads
-use Rattle.exports_answers.proofs.answers.section.Reads as section-reads
-use Rattle.exports_read.proofs.sections.read_kind.Reads as read-kind-reads
-use Rattle.strip_records.proofs.kind.Kind.of_letters.Reads as of-letters-reads
-use Rattle.strip_header.proofs.take_header.Reads as take-header-reads
 use Rattle.exports_read.proofs.reads.read_at.Goals as goal
 
 pub overflow_add-next : goal.overflow_add-next

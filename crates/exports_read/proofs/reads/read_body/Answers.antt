@@ -1,7 +1,6 @@
 use mathlib.Core.Path.{sym, ◌∙◌}
 use Rattle.exports_read.proofs.Reading.{read_other, read_short, body_bad, body_read}
 use Rattle.exports_read.specs.Outcomes.{body_outcome}
-use borrow.Author.Rules.{rules}
 use Rattle.exports_read.proofs.reads.read_body.Goals as goal
 
 pub returns-in_default : goal.returns-in_default

@@ -4,7 +4,6 @@ use Rattle.strip_read.proofs.Cleared.{read_started}
 use Rattle.strip_read.proofs.Steps.{read_refused, read_end, read_on}
 use Rattle.exports_read.proofs.Reading.{read_other, refused_so, ended_so, delivered_on, read_short, section_read}
 use Rattle.exports_read.specs.Outcomes.{section_outcome}
-use borrow.Author.Rules.{rules}
 use Rattle.exports_read.proofs.reads.read_section.Goals as goal
 
 pub returns-in_default : goal.returns-in_default

@@ -1,12 +1,6 @@
 use Rattle.strip_kinds.specs.Body.{body_lists}
 use mathlib.Core.Path.{refl}
 use Rattle.exports_read.proofs.Reading.{read_as}
-use borrow.Author.Rules.{rules}
-use Rattle.exports_read.proofs.sections.read_ali1.Reads as read-ali1-reads
-use Rattle.exports_read.proofs.sections.read_pan1.Reads as read-pan1-reads
-use Rattle.exports_read.proofs.sections.read_pic1.Reads as read-pic1-reads
-use Rattle.exports_read.proofs.sections.read_txt1.Reads as read-txt1-reads
-use Rattle.exports_read.proofs.sections.read_wnd1.Reads as read-wnd1-reads
 use Rattle.exports_read.proofs.sections.read_kind.Goals as goal
 
 pub returns-in-Pan1 : goal.returns-in-Pan1

@@ -1,8 +1,5 @@
 use Rattle.strip_kinds.specs.Body.{body_read}
 use Rattle.strip_read.specs.Read.{read_body}
-use borrow.Author.Rules.{rules}
-use Rattle.exports_read.proofs.deliver.deliver_pan1.Reads as deliver-pan1-reads
-use Rattle.pane.proofs.body.read.Reads as read-reads
 use Rattle.exports_read.proofs.sections.read_pan1.Goals as goal
 
 pub returns : goal.returns

@@ -4,7 +4,6 @@ use native.Mathlib.Omega.{arith}
 use mathlib.Core.Bool.{Bool, true, false}
 use mir.Val.{bool_byte}
 use Rattle.flags.specs.Packed.{flag_number}
-use borrow.Author.Rules.{rules}
 use Rattle.flags.proofs.bits.bit.Goals as goal
 
 -- `bits::bit` meets its contract.

@@ -1,6 +1,5 @@
 use native.Mathlib.Omega.{arith}
 use Rattle.flags.specs.Packed.{pack}
-use borrow.Author.Rules.{rules}
 use Rattle.flags.proofs.bits.eight.Goals as goal
 
 pub returns : goal.returns

@@ -1,13 +1,5 @@
 use Rattle.flat.specs.Base.{base_at}
 use native.Mathlib.Omega.{arith}
-use Rattle.flat.proofs.base.flag_ex_of.Reads as flag-ex-of-reads
-use Rattle.flat.proofs.base.flags_of.Reads as flags-of-reads
-use Rattle.flat.proofs.base.name_of.Reads as name-of-reads
-use Rattle.flat.proofs.base.position_of.Reads as position-of-reads
-use Rattle.flat.proofs.base.user_of.Reads as user-of-reads
-use Rattle.flat.proofs.words.byte_at.Reads as byte-at-reads
-use Rattle.flat.proofs.words.vector2_at.Reads as vector2-at-reads
-use Rattle.flat.proofs.words.vector3_at.Reads as vector3-at-reads
 use Rattle.flat.proofs.base.base_of.Goals as goal
 
 pub flags_of-pane_flags-requires : goal.flags_of-pane_flags-requires

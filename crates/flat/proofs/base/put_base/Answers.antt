@@ -2,13 +2,6 @@ use Rattle.flat.specs.Base.{base_words}
 use Rattle.flat.proofs.Lengths.{name_end, user_end, base_long}
 use mathlib.Core.Path.{refl}
 use Rattle.flat.proofs.Storing.{next}
-use borrow.Author.Rules.{rules}
-use Rattle.flat.proofs.base.put_flag_ex.Reads as put-flag-ex-reads
-use Rattle.flat.proofs.base.put_flags.Reads as put-flags-reads
-use Rattle.flat.proofs.base.put_name.Reads as put-name-reads
-use Rattle.flat.proofs.base.put_position.Reads as put-position-reads
-use Rattle.flat.proofs.base.put_transform.Reads as put-transform-reads
-use Rattle.flat.proofs.base.put_user.Reads as put-user-reads
 use Rattle.flat.proofs.base.put_base.Goals as goal
 
 pub returns : goal.returns

@@ -4,8 +4,6 @@ use mathlib.Core.Path.{◌≡◌}
 use lib.ListN.{length}
 use native.Mathlib.Omega.{arith}
 use borrow.Author.Rules.{rules}
-use Rattle.flat.proofs.words.store.Reads as store-reads
-use Rattle.flat.proofs.words.store_bytes.Reads as store-bytes-reads
 use Rattle.flat.proofs.base.put_name.Goals as goal
 
 pub store_bytes-requires : goal.store_bytes-requires

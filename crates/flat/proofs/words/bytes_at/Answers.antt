@@ -1,6 +1,5 @@
 use Prim.Native.Nat.{◌-◌}
-use lib.ListN.{length}
-use Rattle.flat.proofs.Storing.{Loaded, loaded_none, loaded_more, loaded_all}
+use Rattle.flat.proofs.Storing.{loaded_none, loaded_more, loaded_all}
 use borrow.Author.Rules.{rules}
 use Rattle.flat.proofs.words.bytes_at.Goals as goal
 

@@ -1,7 +1,6 @@
 use Prim.Native.Nat.{◌-◌}
 use lib.ListN.{length}
-use Rattle.flat.proofs.Storing.{Loaded, loaded_none, loaded_more, loaded_all}
-use borrow.Author.Rules.{rules}
+use Rattle.flat.proofs.Storing.{Loaded}
 use Rattle.flat.proofs.words.bytes_at.Given as goal
 
 abbrev pub invariant-loop-i : goal.invariant-loop-i

@@ -1,8 +1,5 @@
-use Prim.Native.Nat.{◌-◌, ◌≤◌}
-use lib.ListN.{length, take}
-use Rattle.flat.specs.Words.{Stored}
+use Prim.Native.Nat.{◌-◌}
 use Rattle.flat.proofs.Storing.{stored_none, stored_more, stored_all}
-use borrow.Author.Rules.{rules}
 use native.Mathlib.Omega.{arith}
 use Rattle.flat.proofs.words.store.Goals as goal
 

@@ -1,8 +1,6 @@
 use mathlib.Core.Path.{refl}
 use native.Mathlib.Omega.{arith}
 use Rattle.flat.proofs.Storing.{next}
-use borrow.Author.Rules.{rules}
-use Rattle.flat.proofs.words.store_color.Reads as store-color-reads
 use Rattle.flat.proofs.words.store_colors.Goals as goal
 
 pub returns : goal.returns

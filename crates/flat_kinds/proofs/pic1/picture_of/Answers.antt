@@ -1,7 +1,4 @@
 use Rattle.flat_kinds.specs.Own.{picture_at}
-use borrow.Author.Rules.{rules}
-use Rattle.flat_kinds.proofs.pic1.shape_of.Reads as shape-of-reads
-use Rattle.flat.proofs.words.colors_at.Reads as colors-at-reads
 use Rattle.flat_kinds.proofs.pic1.picture_of.Goals as goal
 
 pub returns : goal.returns

@@ -1,5 +1,3 @@
-use borrow.Author.Rules.{rules}
-use Rattle.flat.proofs.words.colors_at.Reads as colors-at-reads
 use Rattle.flat_kinds.proofs.wnd1.content_of.Goals as goal
 
 pub returns : goal.returns

@@ -1,5 +1,3 @@
-use borrow.Author.Rules.{rules}
-use Rattle.flags.proofs.window.WindowKind.decode.Reads as decode-reads
 use Rattle.flat_kinds.proofs.wnd1.flag_of.Goals as goal
 
 pub returns : goal.returns

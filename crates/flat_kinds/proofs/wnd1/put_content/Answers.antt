@@ -1,8 +1,5 @@
 use mathlib.Core.Path.{refl}
 use Rattle.flat.proofs.Storing.{next}
-use borrow.Author.Rules.{rules}
-use Rattle.flat.proofs.words.store.Reads as store-reads
-use Rattle.flat.proofs.words.store_colors.Reads as store-colors-reads
 use Rattle.flat_kinds.proofs.wnd1.put_content.Goals as goal
 
 pub returns : goal.returns

@@ -1,7 +1,4 @@
 use Rattle.flat_kinds.proofs.Sides.{sides_stored}
-use borrow.Author.Rules.{rules}
-use Rattle.core_read.proofs.signed.bits_of.Reads as bits-of-reads
-use Rattle.flat.proofs.words.store.Reads as store-reads
 use Rattle.flat_kinds.proofs.wnd1.put_inflation.Goals as goal
 
 pub returns : goal.returns

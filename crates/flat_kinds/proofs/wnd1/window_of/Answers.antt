@@ -1,8 +1,4 @@
 use Rattle.flat_kinds.proofs.Sides.{window_read}
-use borrow.Author.Rules.{rules}
-use Rattle.flat_kinds.proofs.wnd1.content_of.Reads as content-of-reads
-use Rattle.flat_kinds.proofs.wnd1.flag_of.Reads as flag-of-reads
-use Rattle.flat_kinds.proofs.wnd1.side_at.Reads as side-at-reads
 use Rattle.flat_kinds.proofs.wnd1.window_of.Goals as goal
 
 pub returns : goal.returns

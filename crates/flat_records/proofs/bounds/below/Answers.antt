@@ -1,6 +1,4 @@
 use Rattle.flat_records.specs.Below.{or_scanned}
-use borrow.Author.Rules.{rules}
-use Rattle.flat_records.proofs.bounds.scan.Reads as scan-reads
 use Rattle.flat_records.proofs.bounds.below.Goals as goal
 
 pub returns-in-Bad : goal.returns-in-Bad

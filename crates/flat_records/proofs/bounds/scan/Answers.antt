@@ -1,6 +1,5 @@
 use Prim.Native.Nat.{◌-◌}
-use Rattle.flat_records.proofs.Scanning.{Passed, passed_none, passed_more, passed_bad, passed_all}
-use borrow.Author.Rules.{rules}
+use Rattle.flat_records.proofs.Scanning.{passed_none, passed_more, passed_bad, passed_all}
 use Rattle.flat_records.proofs.bounds.scan.Goals as goal
 
 pub loop-i-init : goal.loop-i-init

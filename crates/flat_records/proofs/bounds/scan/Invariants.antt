@@ -1,6 +1,5 @@
 use Prim.Native.Nat.{◌-◌}
-use Rattle.flat_records.proofs.Scanning.{Passed, passed_none, passed_more, passed_bad, passed_all}
-use borrow.Author.Rules.{rules}
+use Rattle.flat_records.proofs.Scanning.{Passed}
 use Rattle.flat_records.proofs.bounds.scan.Given as goal
 
 abbrev pub invariant-loop-i : goal.invariant-loop-i

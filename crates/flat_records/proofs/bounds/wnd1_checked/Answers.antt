@@ -1,5 +1,3 @@
-use borrow.Author.Rules.{rules}
-use Rattle.flat_records.proofs.bounds.below.Reads as below-reads
 use Rattle.flat_records.proofs.bounds.wnd1_checked.Goals as goal
 
 pub returns : goal.returns

@@ -1,9 +1,3 @@
-use borrow.Author.Rules.{rules}
-use Rattle.flat_records.proofs.bounds.ali1_checked.Reads as ali1-checked-reads
-use Rattle.flat_records.proofs.bounds.base_checked.Reads as base-checked-reads
-use Rattle.flat_records.proofs.bounds.pic1_checked.Reads as pic1-checked-reads
-use Rattle.flat_records.proofs.bounds.txt1_checked.Reads as txt1-checked-reads
-use Rattle.flat_records.proofs.bounds.wnd1_checked.Reads as wnd1-checked-reads
 use Rattle.flat_records.proofs.bounds.words_checked.Goals as goal
 
 pub returns-in-Pan1 : goal.returns-in-Pan1

@@ -1,6 +1,5 @@
 use Rattle.flat_records.proofs.RecordLengths.{kind_last}
 use native.Mathlib.Omega.{arith}
-use borrow.Author.Rules.{rules}
 use Rattle.flat_records.proofs.records.kind_of.Goals as goal
 
 pub returns : goal.returns

@@ -1,7 +1,5 @@
 use mathlib.Core.Path.{refl}
 use Rattle.flat.proofs.Storing.{next, stored_one}
-use borrow.Author.Rules.{rules}
-use Rattle.flat.proofs.base.put_base.Reads as put-base-reads
 use Rattle.flat_records.proofs.records.put_front.Goals as goal
 
 pub returns : goal.returns

@@ -1,8 +1,5 @@
 use Rattle.flat_records.specs.Records.{own_words, record_words}
 use Rattle.flat.proofs.Storing.{stored_own}
-use borrow.Author.Rules.{rules}
-use Rattle.flat_records.proofs.records.put_front.Reads as put-front-reads
-use Rattle.flat_text_box.proofs.txt1.put_text_box.Reads as put-text-box-reads
 use Rattle.flat_records.proofs.records.put_txt1.Goals as goal
 
 pub returns : goal.returns

@@ -1,8 +1,5 @@
 use Rattle.flat_records.specs.Records.{own_words, record_words}
 use Rattle.flat.proofs.Storing.{stored_own}
-use borrow.Author.Rules.{rules}
-use Rattle.flat_records.proofs.records.put_front.Reads as put-front-reads
-use Rattle.flat_kinds.proofs.wnd1.put_window.Reads as put-window-reads
 use Rattle.flat_records.proofs.records.put_wnd1.Goals as goal
 
 pub returns : goal.returns

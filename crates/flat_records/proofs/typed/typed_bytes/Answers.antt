@@ -1,6 +1,4 @@
 use Rattle.strip_records.proofs.Bounded.{below_all}
-use borrow.Author.Rules.{rules}
-use Rattle.flat_records.proofs.typed.seen_bytes.Reads as seen-bytes-reads
 use Rattle.flat_records.proofs.typed.typed_bytes.Goals as goal
 
 pub returns : goal.returns

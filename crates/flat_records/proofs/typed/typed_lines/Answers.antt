@@ -1,5 +1,3 @@
-use borrow.Author.Rules.{rules}
-use Rattle.flat_records.proofs.typed.typed_byte.Reads as typed-byte-reads
 use Rattle.flat_records.proofs.typed.typed_lines.Goals as goal
 
 pub returns-in-Absent : goal.returns-in-Absent

@@ -1,5 +1,4 @@
 use borrow.Author.Tests.{eq-eqb, ne_eqb}
-use borrow.Author.Rules.{rules}
 use Rattle.flat_text_box.proofs.txt1.label_of.Goals as goal
 
 pub returns-then-w-eq1 : goal.returns-then-w-eq1

@@ -1,6 +1,4 @@
 use borrow.Author.Tests.{eq-eqb, ne_eqb}
-use borrow.Author.Rules.{rules}
-use Rattle.flat.proofs.words.vector2_at.Reads as vector2-at-reads
 use Rattle.flat_text_box.proofs.txt1.measure_of.Goals as goal
 
 pub returns-then-w-eq1 : goal.returns-then-w-eq1

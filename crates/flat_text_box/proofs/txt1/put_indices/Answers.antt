@@ -1,8 +1,3 @@
-use borrow.Author.Rules.{rules}
-use Rattle.flags.proofs.position.HorizontalPosition.number.Reads as position-HorizontalPosition-number-reads
-use Rattle.flags.proofs.position.VerticalPosition.number.Reads as position-VerticalPosition-number-reads
-use Rattle.flags.proofs.text.TextAlignment.number.Reads as text-TextAlignment-number-reads
-use Rattle.flat.proofs.words.store.Reads as store-reads
 use Rattle.flat_text_box.proofs.txt1.put_indices.Goals as goal
 
 pub returns : goal.returns

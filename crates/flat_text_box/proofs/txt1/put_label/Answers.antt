@@ -1,5 +1,3 @@
-use borrow.Author.Rules.{rules}
-use Rattle.flat.proofs.words.store.Reads as store-reads
 use Rattle.flat_text_box.proofs.txt1.put_label.Goals as goal
 
 pub returns-in-Absent : goal.returns-in-Absent

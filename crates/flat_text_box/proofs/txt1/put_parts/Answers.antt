@@ -1,9 +1,5 @@
 use Rattle.flat_text_box.proofs.Lengths.{text_end, label_end}
 use Rattle.flat.proofs.Storing.{next}
-use borrow.Author.Rules.{rules}
-use Rattle.flat_text_box.proofs.txt1.put_label.Reads as put-label-reads
-use Rattle.flat_text_box.proofs.txt1.put_lines.Reads as put-lines-reads
-use Rattle.flat_text_box.proofs.txt1.put_text.Reads as put-text-reads
 use Rattle.flat_text_box.proofs.txt1.put_parts.Goals as goal
 
 pub returns : goal.returns

@@ -2,12 +2,6 @@ use Rattle.flat_text_box.proofs.Lengths.{font_end}
 use Rattle.flat_text_box.specs.TextBox.{text_box_words}
 use mathlib.Core.Path.{refl}
 use Rattle.flat.proofs.Storing.{next}
-use borrow.Author.Rules.{rules}
-use Rattle.flat_text_box.proofs.txt1.put_flags.Reads as put-flags-reads
-use Rattle.flat_text_box.proofs.txt1.put_font.Reads as put-font-reads
-use Rattle.flat_text_box.proofs.txt1.put_indices.Reads as put-indices-reads
-use Rattle.flat_text_box.proofs.txt1.put_parts.Reads as put-parts-reads
-use Rattle.flat_text_box.proofs.txt1.put_shadow.Reads as put-shadow-reads
 use Rattle.flat_text_box.proofs.txt1.put_text_box.Goals as goal
 
 pub returns : goal.returns

@@ -1,16 +1,5 @@
 use Rattle.flat_text_box.proofs.Fields.{text_box_read}
 use native.Mathlib.Omega.{arith}
-use borrow.Author.Rules.{rules}
-use Rattle.flat_text_box.proofs.txt1.alignment_of.Reads as alignment-of-reads
-use Rattle.flat_text_box.proofs.txt1.flags_of.Reads as flags-of-reads
-use Rattle.flat_text_box.proofs.txt1.label_of.Reads as label-of-reads
-use Rattle.flat_text_box.proofs.txt1.lines_of.Reads as lines-of-reads
-use Rattle.flat_text_box.proofs.txt1.measure_of.Reads as measure-of-reads
-use Rattle.flat_text_box.proofs.txt1.origin_of.Reads as origin-of-reads
-use Rattle.flat_text_box.proofs.txt1.text_of.Reads as text-of-reads
-use Rattle.flat.proofs.words.color_at.Reads as color-at-reads
-use Rattle.flat.proofs.words.float_at.Reads as float-at-reads
-use Rattle.flat.proofs.words.vector2_at.Reads as vector2-at-reads
 use Rattle.flat_text_box.proofs.txt1.text_box_of.Goals as goal
 
 pub origin_of-text_origin-requires : goal.origin_of-text_origin-requires

@@ -1,16 +1,5 @@
 use Rattle.flat_write.proofs.Writing.{pan1_body, pic1_body, txt1_body, wnd1_body, ali1_body}
 use Rattle.core_checks.proofs.Checked.{by_case}
-use borrow.Author.Rules.{rules}
-use Rattle.alignment.proofs.body.write.Reads as body-write-reads
-use Rattle.flat_kinds.proofs.ali1.alignment_of.Reads as alignment-of-reads
-use Rattle.flat.proofs.base.base_of.Reads as base-of-reads
-use Rattle.flat_kinds.proofs.pic1.picture_of.Reads as picture-of-reads
-use Rattle.flat_text_box.proofs.txt1.text_box_of.Reads as text-box-of-reads
-use Rattle.flat_kinds.proofs.wnd1.window_of.Reads as window-of-reads
-use Rattle.pane.proofs.body.write.Reads as body-write-reads'
-use Rattle.picture.proofs.body.write.Reads as body-write-reads''
-use Rattle.text_box.proofs.body.write.Reads as body-write-reads'''
-use Rattle.window.proofs.body.write.Reads as body-write-reads''''
 use Rattle.flat_write.proofs.bodies.write.Goals as goal
 
 pub returns-in-Pan1 : goal.returns-in-Pan1

@@ -1,15 +1,4 @@
 use Rattle.flat_write.proofs.Writing.{pan1_section, pic1_section, txt1_section, wnd1_section, ali1_section}
-use borrow.Author.Rules.{rules}
-use Rattle.flat_kinds.proofs.ali1.alignment_of.Reads as alignment-of-reads
-use Rattle.flat.proofs.base.base_of.Reads as base-of-reads
-use Rattle.flat_kinds.proofs.pic1.picture_of.Reads as picture-of-reads
-use Rattle.flat_text_box.proofs.txt1.text_box_of.Reads as text-box-of-reads
-use Rattle.flat_kinds.proofs.wnd1.window_of.Reads as window-of-reads
-use Rattle.strip_write.proofs.write.write_ali1.Reads as write-ali1-reads
-use Rattle.strip_write.proofs.write.write_pan1.Reads as write-pan1-reads
-use Rattle.strip_write.proofs.write.write_pic1.Reads as write-pic1-reads
-use Rattle.strip_write.proofs.write.write_txt1.Reads as write-txt1-reads
-use Rattle.strip_write.proofs.write.write_wnd1.Reads as write-wnd1-reads
 use Rattle.flat_write.proofs.sections.write.Goals as goal
 
 pub returns-in-Pan1 : goal.returns-in-Pan1

@@ -1,5 +1,4 @@
 use Rattle.floats.proofs.Floats.{no_nan, only_nan, bits_nan}
-use borrow.Author.Rules.{rules}
 use Rattle.floats.proofs.Binary32.of_value.Goals as goal
 
 pub float_to_bits-result : goal.float_to_bits-result

@@ -1,7 +1,4 @@
 use Rattle.pane.proofs.Calls.{given_got, given_refused}
-use borrow.Author.Rules.{rules}
-use Rattle.core_checks.proofs.checks.read_to.Reads as read-to-reads
-use Rattle.pane.proofs.body.refused.Reads as refused-reads
 use Rattle.pane.proofs.body.given.Goals as goal
 
 pub returns-in-At : goal.returns-in-At

@@ -1,8 +1,4 @@
 use Rattle.pane.specs.Body.{pane_measured}
-use borrow.Author.Rules.{rules}
-use Rattle.core_checks.proofs.checks.reach_checked.Reads as reach-checked-reads
-use Rattle.pane_checks.proofs.checks.texts_checked.Reads as texts-checked-reads
-use Rattle.pane_read.proofs.take_pane.Reads as take-pane-reads
 use Rattle.pane.proofs.body.measure.Goals as goal
 
 pub returns : goal.returns

@@ -1,10 +1,6 @@
 use mathlib.Core.Path.{sym, ◌∙◌}
 use Rattle.pane.proofs.Calls.{start_small, parsed, parsed_refused}
 use Rattle.core_checks.proofs.Checked.{read_numbered}
-use borrow.Author.Rules.{rules}
-use Rattle.core_checks.proofs.checks.body_start.Reads as body-start-reads
-use Rattle.pane.proofs.body.read.Reads as read-reads
-use Rattle.pane.proofs.body.refused.Reads as refused-reads
 use Rattle.pane.proofs.body.parse.Goals as goal
 
 pub read-requires : goal.read-requires

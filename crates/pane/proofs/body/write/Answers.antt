@@ -2,9 +2,6 @@ use mathlib.Core.Path.{sym, ◌∙◌}
 use Rattle.core_checks.proofs.Checked.{wrote, not_wrote, write_numbered}
 use Rattle.pane.specs.Body.{pane_written, pane_output}
 use Rattle.pane.proofs.Cleared.{write_cleared, sound}
-use borrow.Author.Rules.{rules}
-use Rattle.pane.proofs.body.write_checked.Reads as write-checked-reads
-use Rattle.pane.proofs.put_pane.Reads as put-pane-reads
 use Rattle.pane.proofs.body.write.Goals as goal
 
 pub put_pane-end-requires : goal.put_pane-end-requires

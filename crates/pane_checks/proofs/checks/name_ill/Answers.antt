@@ -1,10 +1,6 @@
 use mathlib.Core.Path.{sym, ◌∙◌}
 use Rattle.pane_checks.specs.Checks.{name_ill}
 use Rattle.utf8.proofs.Ascii.{ascii_formed}
-use borrow.Author.Rules.{rules}
-use Rattle.pane_checks.proofs.checks.text_of.Reads as text-of-reads
-use Rattle.utf8.proofs.is_ascii.Reads as is-ascii-reads
-use Rattle.utf8.proofs.well_formed.Reads as well-formed-reads
 use Rattle.pane_checks.proofs.checks.name_ill.Goals as goal
 
 pub returns-then-is_ascii : goal.returns-then-is_ascii

@@ -1,8 +1,4 @@
 use Rattle.pane_checks.specs.Checks.{names_checked}
-use borrow.Author.Rules.{rules}
-use Rattle.core_read.proofs.cursor.stop_if.Reads as stop-if-reads
-use Rattle.pane_checks.proofs.checks.pane_name_bad.Reads as pane-name-bad-reads
-use Rattle.pane_checks.proofs.checks.user_name_bad.Reads as user-name-bad-reads
 use Rattle.pane_checks.proofs.checks.names_checked.Goals as goal
 
 pub returns : goal.returns

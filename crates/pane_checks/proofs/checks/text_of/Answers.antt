@@ -1,7 +1,6 @@
 use mathlib.Core.Path.{sym}
 use lib.Seq.{length-take-le, take_all}
 use native.Mathlib.Nat.{le_of_lt}
-use borrow.Author.Rules.{rules}
 use Rattle.pane_checks.proofs.checks.text_of.Goals as goal
 
 pub slice_bounds-result-end : goal.slice_bounds-result-end

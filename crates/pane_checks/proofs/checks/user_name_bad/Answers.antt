@@ -1,7 +1,6 @@
 use mathlib.Core.Path.{◌≡◌, sym}
 use lib.ListN.{length}
 use borrow.Author.Rules.{rules}
-use Rattle.pane_checks.proofs.checks.name_bad.Reads as name-bad-reads
 use Rattle.pane_checks.proofs.checks.user_name_bad.Goals as goal
 
 pub slice_bounds-name_bad-end : goal.slice_bounds-name_bad-end

@@ -1,7 +1,6 @@
 use Rattle.picture.specs.Body.{body_length}
 use Rattle.picture.proofs.Cleared.{picture_short}
 use native.Mathlib.Omega.{arith}
-use borrow.Author.Rules.{rules}
 use Rattle.picture.proofs.body.body_length.Goals as goal
 
 pub overflow_add-result : goal.overflow_add-result

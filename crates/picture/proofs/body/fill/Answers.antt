@@ -1,6 +1,4 @@
 use Rattle.picture.proofs.Calls.{filled, not_filled}
-use borrow.Author.Rules.{rules}
-use Rattle.picture_fields.proofs.fill_picture.Reads as fill-picture-reads
 use Rattle.picture.proofs.body.fill.Goals as goal
 
 pub fill_picture-requires : goal.fill_picture-requires

@@ -1,7 +1,4 @@
 use Rattle.picture.proofs.Calls.{given_got, given_refused}
-use borrow.Author.Rules.{rules}
-use Rattle.core_checks.proofs.checks.read_to.Reads as read-to-reads
-use Rattle.picture.proofs.body.refused.Reads as refused-reads
 use Rattle.picture.proofs.body.given.Goals as goal
 
 pub returns-in-At : goal.returns-in-At

@@ -1,7 +1,6 @@
 use mathlib.Core.Path.{sym, ◌∙◌}
 use Rattle.picture.proofs.Calls.{start_cleared, parsed, parsed_refused}
 use Rattle.core_checks.proofs.Checked.{read_numbered}
-use borrow.Author.Rules.{rules}
 use Rattle.picture.proofs.body.parse.Goals as goal
 
 pub read-requires : goal.read-requires

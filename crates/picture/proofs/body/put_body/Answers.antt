@@ -1,7 +1,6 @@
 use Rattle.core_write.proofs.Puts.{◌then◌}
 use Rattle.picture.specs.Body.{encode_body, body_length}
 use native.Mathlib.Omega.{arith}
-use borrow.Author.Rules.{rules}
 use Rattle.picture.proofs.body.put_body.Goals as goal
 
 pub put_pane-q-requires : goal.put_pane-q-requires

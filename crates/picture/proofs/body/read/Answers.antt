@@ -1,9 +1,5 @@
 use Rattle.picture.specs.Body.{picture_read, quads_read}
 use Rattle.picture.proofs.Calls.{measured_ready}
-use borrow.Author.Rules.{rules}
-use Rattle.picture.proofs.body.fill.Reads as fill-reads
-use Rattle.picture.proofs.body.given.Reads as given-reads
-use Rattle.picture.proofs.body.measure.Reads as measure-reads
 use Rattle.picture.proofs.body.read.Goals as goal
 
 pub fill-requires : goal.fill-requires

@@ -1,5 +1,4 @@
 use Rattle.picture.specs.Body.{picture_start}
-use borrow.Author.Rules.{rules}
 use Rattle.picture.proofs.body.read_start.Goals as goal
 
 pub returns : goal.returns

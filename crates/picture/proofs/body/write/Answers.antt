@@ -3,7 +3,6 @@ use Rattle.core_checks.proofs.Checked.{wrote, not_wrote, write_numbered}
 use Rattle.pane.proofs.Cleared.{sound}
 use Rattle.picture.specs.Body.{picture_written, picture_output}
 use Rattle.picture.proofs.Cleared.{write_cleared}
-use borrow.Author.Rules.{rules}
 use Rattle.picture.proofs.body.write.Goals as goal
 
 pub put_body-end-requires : goal.put_body-end-requires

@@ -1,6 +1,5 @@
 use mathlib.Core.Path.{◌∙◌}
 use Rattle.picture.proofs.Cleared.{checks_good, checks_small, checks_end, checks_refused}
-use borrow.Author.Rules.{rules}
 use Rattle.picture.proofs.body.write_checked.Goals as goal
 
 pub body_length-width-requires : goal.body_length-width-requires

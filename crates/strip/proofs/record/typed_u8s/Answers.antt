@@ -1,6 +1,4 @@
 use Rattle.strip_records.proofs.Bounded.{below_all}
-use borrow.Author.Rules.{rules}
-use Rattle.strip.proofs.record.seen_u8s.Reads as seen-u8s-reads
 use Rattle.strip.proofs.record.typed_u8s.Goals as goal
 
 pub returns : goal.returns

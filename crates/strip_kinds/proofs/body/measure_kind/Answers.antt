@@ -5,22 +5,6 @@ use Rattle.text_box.specs.Body.{text_box_given, text_box_read}
 use Rattle.window.specs.Body.{window_given, window_read}
 use Rattle.alignment.specs.Body.{alignment_given, alignment_read}
 use Rattle.strip_kinds.proofs.Bodies.{pan_made, pic_made, txt_made, wnd_made, ali_made, as_kind}
-use borrow.Author.Rules.{rules}
-use Rattle.alignment.proofs.body.given.Reads as body-given-reads
-use Rattle.alignment.proofs.body.measure.Reads as body-measure-reads
-use Rattle.pane.proofs.body.given.Reads as body-given-reads'
-use Rattle.pane.proofs.body.measure.Reads as body-measure-reads'
-use Rattle.picture.proofs.body.given.Reads as body-given-reads''
-use Rattle.picture.proofs.body.measure.Reads as body-measure-reads''
-use Rattle.strip_kinds.proofs.body.ali1_read.Reads as ali1-read-reads
-use Rattle.strip_kinds.proofs.body.pan1_read.Reads as pan1-read-reads
-use Rattle.strip_kinds.proofs.body.pic1_read.Reads as pic1-read-reads
-use Rattle.strip_kinds.proofs.body.txt1_read.Reads as txt1-read-reads
-use Rattle.strip_kinds.proofs.body.wnd1_read.Reads as wnd1-read-reads
-use Rattle.text_box.proofs.body.given.Reads as body-given-reads'''
-use Rattle.text_box.proofs.body.measure.Reads as body-measure-reads'''
-use Rattle.window.proofs.body.given.Reads as body-given-reads''''
-use Rattle.window.proofs.body.measure.Reads as body-measure-reads''''
 use Rattle.strip_kinds.proofs.body.measure_kind.Goals as goal
 
 pub returns-in-Pan1 : goal.returns-in-Pan1

@@ -1,9 +1,4 @@
 use Rattle.strip_kinds.proofs.Bodies.{kind_pan, kind_pic, kind_txt, kind_wnd, kind_ali}
-use borrow.Author.Rules.{rules}
-use Rattle.strip_kinds.proofs.body.measure_kind.Reads as measure-kind-reads
-use Rattle.strip_kinds.proofs.body.read_pic1.Reads as read-pic1-reads
-use Rattle.strip_kinds.proofs.body.read_txt1.Reads as read-txt1-reads
-use Rattle.strip_kinds.proofs.body.read_wnd1.Reads as read-wnd1-reads
 use Rattle.strip_kinds.proofs.body.read_kind.Goals as goal
 
 pub returns-in-Pan1 : goal.returns-in-Pan1

@@ -1,7 +1,4 @@
 use Rattle.strip_kinds.proofs.Bodies.{pic_made}
-use borrow.Author.Rules.{rules}
-use Rattle.picture.proofs.body.read.Reads as read-reads
-use Rattle.strip_kinds.proofs.body.pic1_read.Reads as pic1-read-reads
 use Rattle.strip_kinds.proofs.body.read_pic1.Goals as goal
 
 pub returns : goal.returns

@@ -1,7 +1,4 @@
 use Rattle.strip_kinds.proofs.Bodies.{txt_made}
-use borrow.Author.Rules.{rules}
-use Rattle.strip_kinds.proofs.body.txt1_read.Reads as txt1-read-reads
-use Rattle.text_box.proofs.body.read.Reads as read-reads
 use Rattle.strip_kinds.proofs.body.read_txt1.Goals as goal
 
 pub returns : goal.returns

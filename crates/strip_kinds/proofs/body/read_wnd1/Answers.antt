@@ -1,7 +1,4 @@
 use Rattle.strip_kinds.proofs.Bodies.{wnd_made}
-use borrow.Author.Rules.{rules}
-use Rattle.strip_kinds.proofs.body.wnd1_read.Reads as wnd1-read-reads
-use Rattle.window.proofs.body.read.Reads as read-reads
 use Rattle.strip_kinds.proofs.body.read_wnd1.Goals as goal
 
 pub returns : goal.returns

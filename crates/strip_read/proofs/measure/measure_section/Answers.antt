@@ -1,11 +1,6 @@
 use mathlib.Core.Path.{sym, ◌∙◌}
 use Rattle.core_checks.proofs.Checked.{section_started}
 use Rattle.strip_read.proofs.Steps.{measured_numbered, measured_refused, measured_end, measured_goes}
-use borrow.Author.Rules.{rules}
-use Rattle.core_checks.proofs.checks.section_start.Reads as section-start-reads
-use Rattle.strip_read.proofs.read.ended.Reads as ended-reads
-use Rattle.strip_read.proofs.measure.measure_at.Reads as measure-at-reads
-use Rattle.strip_read.proofs.read.refused.Reads as refused-reads
 use Rattle.strip_read.proofs.measure.measure_section.Goals as goal
 
 pub measure_at-requires : goal.measure_at-requires

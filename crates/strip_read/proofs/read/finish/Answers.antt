@@ -1,6 +1,4 @@
 use Rattle.strip_read.specs.Read.{finished}
-use borrow.Author.Rules.{rules}
-use Rattle.strip_read.proofs.read.refused.Reads as refused-reads
 use Rattle.strip_read.proofs.read.finish.Goals as goal
 
 pub returns-in-Read : goal.returns-in-Read

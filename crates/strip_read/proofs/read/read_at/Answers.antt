@@ -2,13 +2,6 @@ use mathlib.Core.Path.{sym, ◌∙◌}
 use Rattle.strip_records.specs.Whole.{lists}
 use Rattle.strip_read.proofs.Steps.{header_refused, header_size, header_kind, header_other}
 use native.Mathlib.Omega.{arith}
-use borrow.Author.Rules.{rules}
-use Rattle.strip_records.proofs.kind.Kind.of_letters.Reads as of-letters-reads
-use Rattle.strip_read.proofs.read.finish.Reads as finish-reads
-use Rattle.strip_read.proofs.read.passed.Reads as Passed-reads
-use Rattle.strip_kinds.proofs.body.read_kind.Reads as read-kind-reads
-use Rattle.strip_read.proofs.read.refused.Reads as refused-reads
-use Rattle.strip_header.proofs.take_header.Reads as take-header-reads
 use Rattle.strip_read.proofs.read.read_at.Goals as goal
 
 pub overflow_add-next : goal.overflow_add-next

@@ -2,11 +2,6 @@ use mathlib.Core.Path.{sym, ◌∙◌}
 use Rattle.strip_records.specs.Whole.{lists}
 use Rattle.strip_read.proofs.Cleared.{read_started}
 use Rattle.strip_read.proofs.Steps.{numbered, read_refused, read_end, read_on}
-use borrow.Author.Rules.{rules}
-use Rattle.strip_read.proofs.read.ended.Reads as ended-reads
-use Rattle.strip_read.proofs.read.read_at.Reads as read-at-reads
-use Rattle.strip_header.proofs.read_start.Reads as read-start-reads
-use Rattle.strip_read.proofs.read.refused.Reads as refused-reads
 use Rattle.strip_read.proofs.read.read_section.Goals as goal
 
 pub read_at-requires : goal.read_at-requires

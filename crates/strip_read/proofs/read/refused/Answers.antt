@@ -1,6 +1,4 @@
 use Rattle.strip_read.specs.Read.{refused_with}
-use borrow.Author.Rules.{rules}
-use Rattle.strip_records.proofs.record.blank_record.Reads as blank-record-reads
 use Rattle.strip_read.proofs.read.refused.Goals as goal
 
 pub returns : goal.returns

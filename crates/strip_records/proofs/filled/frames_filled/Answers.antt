@@ -1,5 +1,3 @@
-use borrow.Author.Rules.{rules}
-use Rattle.strip_records.proofs.filled.frames_of.Reads as frames-of-reads
 use Rattle.strip_records.proofs.filled.frames_filled.Goals as goal
 
 pub returns-in-Wnd1 : goal.returns-in-Wnd1

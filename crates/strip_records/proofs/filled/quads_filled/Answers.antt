@@ -1,5 +1,3 @@
-use borrow.Author.Rules.{rules}
-use Rattle.strip_records.proofs.filled.quads_of.Reads as quads-of-reads
 use Rattle.strip_records.proofs.filled.quads_filled.Goals as goal
 
 pub returns-in-Pic1 : goal.returns-in-Pic1

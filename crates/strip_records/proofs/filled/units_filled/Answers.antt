@@ -1,5 +1,3 @@
-use borrow.Author.Rules.{rules}
-use Rattle.strip_records.proofs.filled.units_of.Reads as units-of-reads
 use Rattle.strip_records.proofs.filled.units_filled.Goals as goal
 
 pub returns-in-Txt1 : goal.returns-in-Txt1

@@ -1,8 +1,5 @@
 use Rattle.strip_write.proofs.Cleared.{size_bound}
 use native.Mathlib.Omega.{arith}
-use borrow.Author.Rules.{rules}
-use Rattle.core_checks.proofs.checks.end_checked.Reads as end-checked-reads
-use Rattle.strip_write.proofs.write.section_size.Reads as section-size-reads
 use Rattle.strip_write.proofs.write.end_checked.Goals as goal
 
 pub end_checked-requires : goal.end_checked-requires

@@ -4,10 +4,6 @@ use Rattle.core_write.proofs.Puts.{◌then◌, put_as}
 use Rattle.strip_write.proofs.Steps.{letters_bytes}
 use Rattle.strip_write.proofs.Cleared.{size_bound}
 use native.Mathlib.Omega.{arith}
-use borrow.Author.Rules.{rules}
-use Rattle.core_write.proofs.writer.put_u32.Reads as put-u32-reads
-use Rattle.strip_records.proofs.kind.Kind.letters.Reads as letters-reads
-use Rattle.strip_write.proofs.write.section_size.Reads as section-size-reads
 use Rattle.strip_write.proofs.write.put_header.Goals as goal
 
 pub overflow_cast-size : goal.overflow_cast-size

@@ -1,8 +1,6 @@
 use Rattle.core_read.specs.Bytes.{padding}
 use Rattle.strip_write.specs.Write.{section_size}
 use native.Mathlib.Omega.{arith}
-use borrow.Author.Rules.{rules}
-use Rattle.core_write.proofs.writer.padding_at.Reads as padding-at-reads
 use Rattle.strip_write.proofs.write.section_size.Goals as goal
 
 pub overflow_add-result-2 : goal.overflow_add-result-2

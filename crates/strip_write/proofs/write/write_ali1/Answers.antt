@@ -1,13 +1,7 @@
 use mathlib.Core.Path.{refl}
-use mathlib.Core.List.{[]}
 use Rattle.strip_records.specs.Whole.{whole, ali1}
 use Rattle.strip_write.proofs.WriteKinds.{ali1_checks, place_small, fits, end_made, not_written, ali1_written}
 use native.Mathlib.Omega.{arith}
-use borrow.Author.Rules.{rules}
-use Rattle.alignment.proofs.body.put_body.Reads as put-body-reads
-use Rattle.strip_write.proofs.write.base_checked.Reads as base-checked-reads
-use Rattle.strip_write.proofs.write.end_checked.Reads as end-checked-reads
-use Rattle.strip_write.proofs.write.put_header.Reads as put-header-reads
 use Rattle.strip_write.proofs.write.write_ali1.Goals as goal
 
 pub end_checked-p-requires : goal.end_checked-p-requires

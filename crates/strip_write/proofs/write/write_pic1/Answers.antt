@@ -1,17 +1,7 @@
-use mathlib.Core.List.{[]}
 use Rattle.picture.proofs.Cleared.{body_short}
 use Rattle.strip_records.specs.Whole.{whole, pic1}
 use Rattle.strip_write.proofs.WriteKinds.{pic1_checks, pic1_good, place_small, fits, stopped, end_made, not_written, pic1_written}
 use native.Mathlib.Omega.{arith}
-use borrow.Author.Rules.{rules}
-use Rattle.core_write.proofs.writer.padding_at.Reads as padding-at-reads
-use Rattle.core_write.proofs.writer.put_zeros.Reads as put-zeros-reads
-use Rattle.picture.proofs.body.body_length.Reads as body-length-reads
-use Rattle.picture.proofs.body.put_body.Reads as put-body-reads
-use Rattle.picture_fields.proofs.picture_checked.Reads as picture-checked-reads
-use Rattle.strip_write.proofs.write.base_checked.Reads as base-checked-reads
-use Rattle.strip_write.proofs.write.end_checked.Reads as end-checked-reads
-use Rattle.strip_write.proofs.write.put_header.Reads as put-header-reads
 use Rattle.strip_write.proofs.write.write_pic1.Goals as goal
 
 pub body_length-n-requires : goal.body_length-n-requires

@@ -1,11 +1,5 @@
 use Rattle.strip_write.proofs.WriteKinds.{alone, pan1_alone, pic1_alone, txt1_alone, wnd1_alone, ali1_alone}
 use Rattle.core_checks.proofs.Checked.{write_numbered}
-use borrow.Author.Rules.{rules}
-use Rattle.strip_write.proofs.write.write_ali1.Reads as write-ali1-reads
-use Rattle.strip_write.proofs.write.write_pan1.Reads as write-pan1-reads
-use Rattle.strip_write.proofs.write.write_pic1.Reads as write-pic1-reads
-use Rattle.strip_write.proofs.write.write_txt1.Reads as write-txt1-reads
-use Rattle.strip_write.proofs.write.write_wnd1.Reads as write-wnd1-reads
 use Rattle.strip_write.proofs.write.write_section.Goals as goal
 
 pub returns-in-Pan1 : goal.returns-in-Pan1

@@ -1,17 +1,6 @@
-use mathlib.Core.List.{[]}
 use Rattle.strip_records.specs.Whole.{whole, txt1}
 use Rattle.strip_write.proofs.WriteKinds.{txt1_checks, txt1_good, text_length, place_small, fits, stopped, end_made, not_written, txt1_written}
 use native.Mathlib.Omega.{arith}
-use borrow.Author.Rules.{rules}
-use Rattle.core_write.proofs.writer.padding_at.Reads as padding-at-reads
-use Rattle.core_write.proofs.writer.put_zeros.Reads as put-zeros-reads
-use Rattle.strip_write.proofs.write.end_checked.Reads as end-checked-reads
-use Rattle.strip_write.proofs.write.labelled_checked.Reads as labelled-checked-reads
-use Rattle.strip_write.proofs.write.put_header.Reads as put-header-reads
-use Rattle.text_box.proofs.body.put_body.Reads as put-body-reads
-use Rattle.text_box_checks.proofs.text_box_checked.Reads as text-box-checked-reads
-use Rattle.text_box_read.proofs.typed_text_box.Reads as typed-text-box-reads
-use Rattle.text_box_write.proofs.write.text_box_length.Reads as text-box-length-reads
 use Rattle.strip_write.proofs.write.write_txt1.Goals as goal
 
 pub overflow_add-body : goal.overflow_add-body

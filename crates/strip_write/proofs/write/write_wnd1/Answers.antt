@@ -1,16 +1,6 @@
-use mathlib.Core.List.{[]}
 use Rattle.strip_records.specs.Whole.{whole, wnd1}
 use Rattle.strip_write.proofs.WriteKinds.{wnd1_checks, wnd1_good, window_length_lem, place_small, fits, stopped, end_made, not_written, wnd1_written}
 use native.Mathlib.Omega.{arith}
-use borrow.Author.Rules.{rules}
-use Rattle.core_write.proofs.writer.padding_at.Reads as padding-at-reads
-use Rattle.core_write.proofs.writer.put_zeros.Reads as put-zeros-reads
-use Rattle.strip_write.proofs.write.base_checked.Reads as base-checked-reads
-use Rattle.strip_write.proofs.write.end_checked.Reads as end-checked-reads
-use Rattle.strip_write.proofs.write.put_header.Reads as put-header-reads
-use Rattle.window.proofs.body.put_body.Reads as put-body-reads
-use Rattle.window_write.proofs.write.window_checked.Reads as window-checked-reads
-use Rattle.window_write.proofs.write.window_length.Reads as window-length-reads
 use Rattle.strip_write.proofs.write.write_wnd1.Goals as goal
 
 pub overflow_add-body : goal.overflow_add-body

@@ -1,6 +1,5 @@
 use Rattle.core_checks.proofs.Checked.{end_stays}
 use native.Mathlib.Omega.{arith}
-use borrow.Author.Rules.{rules}
 use Rattle.text_box.proofs.body.end_checked.Goals as goal
 
 pub text_box_length-width-requires : goal.text_box_length-width-requires

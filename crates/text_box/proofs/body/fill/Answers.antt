@@ -1,6 +1,4 @@
 use Rattle.text_box.proofs.Calls.{filled, not_filled}
-use borrow.Author.Rules.{rules}
-use Rattle.text_box_read.proofs.fill_text_box.Reads as fill-text-box-reads
 use Rattle.text_box.proofs.body.fill.Goals as goal
 
 pub fill_text_box-requires : goal.fill_text_box-requires

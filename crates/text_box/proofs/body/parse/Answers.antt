@@ -1,6 +1,5 @@
 use Rattle.text_box.proofs.Calls.{start_ok, start-reads, start_refused}
 use Rattle.core_checks.proofs.Checked.{read_numbered}
-use borrow.Author.Rules.{rules}
 use Rattle.text_box.proofs.body.parse.Goals as goal
 
 pub read-requires : goal.read-requires

@@ -1,6 +1,5 @@
 use Rattle.core_write.proofs.Puts.{◌then◌}
 use Rattle.text_box.specs.Body.{encode_body}
-use borrow.Author.Rules.{rules}
 use Rattle.text_box.proofs.body.put_body.Goals as goal
 
 pub returns : goal.returns

@@ -1,9 +1,5 @@
 use Rattle.text_box.specs.Body.{text_box_read, units_after, lines_after}
 use Rattle.text_box.proofs.Calls.{measured_ready}
-use borrow.Author.Rules.{rules}
-use Rattle.text_box.proofs.body.fill.Reads as fill-reads
-use Rattle.text_box.proofs.body.given.Reads as given-reads
-use Rattle.text_box.proofs.body.measure.Reads as measure-reads
 use Rattle.text_box.proofs.body.read.Goals as goal
 
 pub fill-requires : goal.fill-requires

@@ -3,7 +3,6 @@ use Rattle.core_checks.proofs.Checked.{wrote, not_wrote, write_numbered}
 use Rattle.pane.proofs.Cleared.{sound}
 use Rattle.text_box.specs.Body.{text_box_written, text_box_output}
 use Rattle.text_box.proofs.Calls.{write_cleared, measured}
-use borrow.Author.Rules.{rules}
 use Rattle.text_box.proofs.body.write.Goals as goal
 
 pub put_body-end-requires : goal.put_body-end-requires

@@ -1,6 +1,5 @@
 use Rattle.text_box.specs.Body.{text_box_write_checked}
 use Rattle.text_box.proofs.Calls.{ready, measured}
-use borrow.Author.Rules.{rules}
 use Rattle.text_box.proofs.body.write_checked.Goals as goal
 
 pub end_checked-requires : goal.end_checked-requires

@@ -1,5 +1,4 @@
 use Rattle.text_box_caption.proofs.Captions.{inside, beyond, outside, caption_got, caption_lent, caption_at, lent_at}
-use borrow.Author.Rules.{rules}
 use Rattle.text_box_caption.proofs.caption.caption.Goals as goal
 
 pub returns-then-length-strip : goal.returns-then-length-strip

@@ -1,11 +1,6 @@
 use Rattle.text_box_fixed.proofs.Here.{fixed_made}
 use native.Mathlib.Omega.{arith}
 use Rattle.core_read.proofs.Cursors.{pos_advanced}
-use borrow.Author.Rules.{rules}
-use Rattle.core_read.proofs.cursor.Cursor.advanced.Reads as advanced-reads
-use Rattle.text_box_fixed.proofs.fixed.font_at.Reads as font-at-reads
-use Rattle.text_box_fixed.proofs.fixed.head_at.Reads as head-at-reads
-use Rattle.text_box_fixed.proofs.fixed.shadow_at.Reads as shadow-at-reads
 use Rattle.text_box_fixed.proofs.fixed.fixed_at.Goals as goal
 
 pub font_at-font-requires : goal.font_at-font-requires

@@ -1,9 +1,4 @@
 use Rattle.text_box_fixed.proofs.Here.{shadow_made}
-use borrow.Author.Rules.{rules}
-use Rattle.core_read.proofs.cursor.Cursor.advanced.Reads as advanced-reads
-use Rattle.core_read.proofs.cursor.u32_at.Reads as u32-at-reads
-use Rattle.ui2d.proofs.fixed.color_at.Reads as color-at-reads
-use Rattle.ui2d.proofs.fixed.vector2_at.Reads as vector2-at-reads
 use Rattle.text_box_fixed.proofs.fixed.shadow_at.Goals as goal
 
 pub returns : goal.returns

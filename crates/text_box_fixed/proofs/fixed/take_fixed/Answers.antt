@@ -1,6 +1,3 @@
-use borrow.Author.Rules.{rules}
-use Rattle.text_box_fixed.proofs.fixed.fixed_at.Reads as fixed-at-reads
-use Rattle.text_box_fixed.proofs.fixed.take_chunks.Reads as take-chunks-reads
 use Rattle.text_box_fixed.proofs.fixed.take_fixed.Goals as goal
 
 pub returns-then-data-at-ge84 : goal.returns-then-data-at-ge84

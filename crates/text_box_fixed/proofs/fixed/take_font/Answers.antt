@@ -1,5 +1,4 @@
 use Rattle.text_box_fixed.specs.Fixed.{font_taken}
-use borrow.Author.Rules.{rules}
 use Rattle.text_box_fixed.proofs.fixed.take_font.Goals as goal
 
 pub returns : goal.returns

@@ -1,5 +1,4 @@
 use Rattle.text_box_fixed.specs.Fixed.{head_taken}
-use borrow.Author.Rules.{rules}
 use Rattle.text_box_fixed.proofs.fixed.take_head.Goals as goal
 
 pub returns : goal.returns

@@ -1,5 +1,4 @@
 use Rattle.text_box_fixed.specs.Fixed.{shadow_taken}
-use borrow.Author.Rules.{rules}
 use Rattle.text_box_fixed.proofs.fixed.take_shadow.Goals as goal
 
 pub returns : goal.returns

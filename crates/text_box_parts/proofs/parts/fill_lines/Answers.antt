@@ -1,5 +1,4 @@
 use native.Mathlib.Omega.{arith}
-use borrow.Author.Rules.{rules}
 use Rattle.text_box_parts.proofs.parts.fill_lines.Goals as goal
 
 pub overflow_add-at : goal.overflow_add-at

@@ -1,7 +1,6 @@
 use Prim.Native.Nat.{◌-◌}
-use Rattle.text_box_parts.proofs.Pairs.{Paired, paired_none, paired_more, paired_all}
+use Rattle.text_box_parts.proofs.Pairs.{paired_none, paired_more, paired_all}
 use lib.ListN.{length-set}
-use borrow.Author.Rules.{rules}
 use native.Mathlib.Omega.{arith}
 use Rattle.text_box_parts.proofs.parts.fill_pairs.Goals as goal
 

@@ -1,8 +1,5 @@
 use Prim.Native.Nat.{◌-◌}
-use Rattle.text_box_parts.proofs.Pairs.{Paired, paired_none, paired_more, paired_all}
-use lib.ListN.{length-set}
-use borrow.Author.Rules.{rules}
-use native.Mathlib.Omega.{arith}
+use Rattle.text_box_parts.proofs.Pairs.{Paired}
 use Rattle.text_box_parts.proofs.parts.fill_pairs.Given as goal
 
 abbrev pub invariant-loop-i : goal.invariant-loop-i

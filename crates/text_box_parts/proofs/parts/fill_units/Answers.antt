@@ -1,5 +1,4 @@
 use Rattle.core_read.proofs.Lists.{length_numbers}
-use borrow.Author.Rules.{rules}
 use Rattle.text_box_parts.proofs.parts.fill_units.Goals as goal
 
 pub fill_u16s-requires : goal.fill_u16s-requires

@@ -1,5 +1,4 @@
 use Rattle.text_box_parts.specs.Parts.{label_at}
-use borrow.Author.Rules.{rules}
 use Rattle.text_box_parts.proofs.parts.label_at.Goals as goal
 
 pub returns : goal.returns

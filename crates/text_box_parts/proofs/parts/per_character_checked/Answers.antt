@@ -1,5 +1,4 @@
 use Rattle.text_box_parts.specs.Parts.{per_character_checked}
-use borrow.Author.Rules.{rules}
 use Rattle.text_box_parts.proofs.parts.per_character_checked.Goals as goal
 
 pub returns : goal.returns

@@ -1,6 +1,5 @@
 use borrow.Author.Tests.{eq-eqb, ne_eqb}
 use Rattle.text_box_parts.specs.Parts.{lines_taken}
-use borrow.Author.Rules.{rules}
 use Rattle.text_box_parts.proofs.parts.take_lines.Goals as goal
 
 pub returns-then-offset-ne0 : goal.returns-then-offset-ne0

@@ -1,5 +1,4 @@
 use Rattle.text_box_parts.proofs.Run.{text_room, text_got, text_refused}
-use borrow.Author.Rules.{rules}
 use Rattle.text_box_parts.proofs.parts.text_at.Goals as goal
 
 pub text_of-found-requires : goal.text_of-found-requires

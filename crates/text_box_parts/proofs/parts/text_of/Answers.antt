@@ -1,4 +1,3 @@
-use borrow.Author.Rules.{rules}
 use Rattle.text_box_parts.proofs.parts.text_of.Goals as goal
 
 pub returns-then-formed : goal.returns-then-formed

@@ -1,4 +1,3 @@
-use borrow.Author.Rules.{rules}
 use Rattle.text_box_parts.proofs.units.unit_breaks.Goals as goal
 
 pub returns-then-waits : goal.returns-then-waits

@@ -1,7 +1,6 @@
 use Prim.Native.Nat.{◌-◌}
-use Rattle.text_box_parts.proofs.Surrogates.{Left, left_none, left_more, left_off, left_over}
+use Rattle.text_box_parts.proofs.Surrogates.{left_none, left_more, left_off, left_over}
 use mathlib.Core.Path.{sym, ◌∙◌}
-use borrow.Author.Rules.{rules}
 use Rattle.text_box_parts.proofs.units.well_formed_at.Goals as goal
 
 pub loop-i-init : goal.loop-i-init

@@ -1,7 +1,5 @@
 use Prim.Native.Nat.{◌-◌}
-use Rattle.text_box_parts.proofs.Surrogates.{Left, left_none, left_more, left_off, left_over}
-use mathlib.Core.Path.{sym, ◌∙◌}
-use borrow.Author.Rules.{rules}
+use Rattle.text_box_parts.proofs.Surrogates.{Left}
 use Rattle.text_box_parts.proofs.units.well_formed_at.Given as goal
 
 abbrev pub invariant-loop-i : goal.invariant-loop-i

@@ -2,7 +2,6 @@ use mathlib.Core.Path.{refl, ap}
 use Rattle.core_write.proofs.Puts.{◌then◌, put_as}
 use Rattle.ui2d.specs.Parts.{encode_vector2}
 use Rattle.text_box_write.specs.Fixed.{encode_font}
-use borrow.Author.Rules.{rules}
 use Rattle.text_box_write.proofs.fixed.put_font.Goals as goal
 
 pub returns : goal.returns

@@ -1,6 +1,5 @@
 use Rattle.core_write.proofs.Puts.{◌then◌}
 use Rattle.text_box_write.specs.Fixed.{encode_shadow}
-use borrow.Author.Rules.{rules}
 use Rattle.text_box_write.proofs.fixed.put_shadow.Goals as goal
 
 pub returns : goal.returns

@@ -3,7 +3,6 @@ use Rattle.core_read.specs.Bytes.{bytes_of}
 use Rattle.core_write.proofs.Puts.{◌then◌, put_as}
 use Rattle.flags.specs.Fields.{text_flags_number}
 use Rattle.text_box_write.specs.Fixed.{encode_style}
-use borrow.Author.Rules.{rules}
 use Rattle.text_box_write.proofs.fixed.put_style.Goals as goal
 
 pub returns : goal.returns

@@ -1,6 +1,5 @@
 use Rattle.text_box_write.specs.Written.{layout_of}
 use native.Mathlib.Omega.{arith}
-use borrow.Author.Rules.{rules}
 use Rattle.text_box_write.proofs.write.lay_out.Goals as goal
 
 pub returns : goal.returns

@@ -1,6 +1,5 @@
 use Rattle.core_read.specs.Bytes.{padding}
 use native.Mathlib.Omega.{arith}
-use borrow.Author.Rules.{rules}
 use Rattle.text_box_write.proofs.write.lines_offset.Goals as goal
 
 pub overflow_add-result : goal.overflow_add-result

@@ -1,7 +1,6 @@
 use mathlib.Core.Path.{refl}
 use Rattle.core_read.specs.Bytes.{padding}
 use native.Mathlib.Omega.{arith}
-use borrow.Author.Rules.{rules}
 use Rattle.text_box_write.proofs.write.lines_width.Goals as goal
 
 pub overflow_add-result-in-Present-2 : goal.overflow_add-result-in-Present-2

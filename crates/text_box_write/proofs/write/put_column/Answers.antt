@@ -1,10 +1,9 @@
 use mathlib.Core.Path.{◌≡◌}
-use Prim.Native.Nat.{◌-◌, ◌*◌, ◌≤◌}
-use Rattle.core_read.specs.Bytes.{Put, bytes_of_all}
+use Prim.Native.Nat.{◌-◌}
+use Rattle.core_read.specs.Bytes.{bytes_of_all}
 use Rattle.core_write.proofs.Puts.{◌then◌, put_none, put_as}
 use Rattle.text_box_parts.specs.Parts.{column}
 use Rattle.text_box_write.proofs.Columns.{column_bytes}
-use borrow.Author.Rules.{rules}
 use native.Mathlib.Omega.{arith}
 use Rattle.text_box_write.proofs.write.put_column.Goals as goal
 

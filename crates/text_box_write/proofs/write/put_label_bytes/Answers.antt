@@ -2,7 +2,6 @@ use mathlib.Core.Path.{refl, sym}
 use native.Mathlib.Omega.{arith}
 use Rattle.core_read.proofs.Numbers.{byte_bytes}
 use Rattle.core_write.proofs.Puts.{◌then◌, put_as}
-use borrow.Author.Rules.{rules}
 use Rattle.text_box_write.proofs.write.put_label_bytes.Goals as goal
 
 pub returns : goal.returns

@@ -1,5 +1,4 @@
 use Rattle.core_write.proofs.Puts.{put_none}
-use borrow.Author.Rules.{rules}
 use Rattle.text_box_write.proofs.write.put_lines.Goals as goal
 
 pub put_table-requires : goal.put_table-requires

@@ -1,5 +1,4 @@
 use Rattle.core_write.proofs.Puts.{◌then◌}
-use borrow.Author.Rules.{rules}
 use Rattle.text_box_write.proofs.write.put_table.Goals as goal
 
 pub returns : goal.returns

@@ -1,5 +1,4 @@
 use Rattle.core_write.proofs.Puts.{put_none}
-use borrow.Author.Rules.{rules}
 use Rattle.text_box_write.proofs.write.put_text.Goals as goal
 
 pub put_u16s-requires : goal.put_u16s-requires

@@ -1,6 +1,5 @@
 use mathlib.Core.Path.{◌∙◌}
 use Rattle.text_box_write.proofs.Parted.{need_fixed, need_text, need_label, need_lines, whole_put}
-use borrow.Author.Rules.{rules}
 use Rattle.text_box_write.proofs.write.put_text_box.Goals as goal
 
 pub put_fixed-q-requires : goal.put_fixed-q-requires

@@ -1,7 +1,6 @@
 use mathlib.Core.Path.{ap}
 use Rattle.text_box_write.specs.declared.write.Layout.{Layout}
 use Rattle.text_box_write.specs.Written.{layout_of, text_box_length}
-use borrow.Author.Rules.{rules}
 use Rattle.text_box_write.proofs.write.text_box_length.Goals as goal
 
 pub returns : goal.returns

@@ -1,6 +1,5 @@
 use mathlib.Core.Path.{refl}
 use native.Mathlib.Omega.{arith}
-use borrow.Author.Rules.{rules}
 use Rattle.text_box_write.proofs.write.text_width.Goals as goal
 
 pub returns-in-Absent : goal.returns-in-Absent

@@ -1,5 +1,4 @@
 use Rattle.ui2d.specs.Material.{material_taken}
-use borrow.Author.Rules.{rules}
 use Rattle.ui2d.proofs.material.take_fields.Goals as goal
 
 pub returns : goal.returns

@@ -1,6 +1,3 @@
-use borrow.Author.Rules.{rules}
-use Rattle.ui2d.proofs.material.material_at.Reads as material-at-reads
-use Rattle.ui2d.proofs.material.take_fields.Reads as take-fields-reads
 use Rattle.ui2d.proofs.material.take_material.Goals as goal
 
 pub returns-then-data-at-ge4 : goal.returns-then-data-at-ge4

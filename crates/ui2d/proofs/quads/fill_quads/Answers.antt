@@ -1,7 +1,6 @@
-use Prim.Native.Nat.{◌-◌, ◌*◌}
-use Rattle.core_read.proofs.Lists.{Filled, filled_none, filled_all}
+use Prim.Native.Nat.{◌-◌}
+use Rattle.core_read.proofs.Lists.{filled_none, filled_all}
 use Rattle.ui2d.proofs.QuadRuns.{quad_filled}
-use borrow.Author.Rules.{rules}
 use native.Mathlib.Omega.{arith}
 use Rattle.ui2d.proofs.quads.fill_quads.Goals as goal
 

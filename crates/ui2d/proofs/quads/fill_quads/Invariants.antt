@@ -1,8 +1,5 @@
 use Prim.Native.Nat.{◌-◌, ◌*◌}
-use Rattle.core_read.proofs.Lists.{Filled, filled_none, filled_all}
-use Rattle.ui2d.proofs.QuadRuns.{quad_filled}
-use borrow.Author.Rules.{rules}
-use native.Mathlib.Omega.{arith}
+use Rattle.core_read.proofs.Lists.{Filled}
 use Rattle.ui2d.proofs.quads.fill_quads.Given as goal
 
 abbrev pub invariant-loop-i : goal.invariant-loop-i

@@ -1,11 +1,10 @@
-use mathlib.Core.Path.{◌≡◌, ap}
-use Prim.Native.Nat.{◌+◌, ◌-◌, ◌*◌, ◌%◌, ◌≤◌}
-use lib.ListN.{length, take}
+use mathlib.Core.Path.{ap}
+use Prim.Native.Nat.{◌+◌, ◌-◌, ◌≤◌}
+use lib.ListN.{length}
 use lib.Seq.{take_all}
-use Rattle.core_read.specs.Bytes.{Put, bytes_of_all}
+use Rattle.core_read.specs.Bytes.{bytes_of_all}
 use Rattle.core_write.proofs.Puts.{◌then◌, put_none, put_as}
 use Rattle.ui2d.proofs.QuadRuns.{quads_more}
-use borrow.Author.Rules.{rules}
 use native.Mathlib.Omega.{arith}
 use Rattle.ui2d.proofs.quads.put_quads.Goals as goal
 

@@ -1,4 +1,4 @@
-use Rattle.std.proofs.Common.{◌≡◌, ap, ◌∙◌}
+use Rattle.std.proofs.Common.{ap, ◌∙◌}
 use Rattle.strip_read.specs.declared.read.SectionRead.{SectionRead}
 use Rattle.walk.specs.Walk.{place_after, moved_on}
 use Rattle.walk.specs.declared.Walk.{Walk}

@@ -1,6 +1,4 @@
 use Rattle.window.proofs.Calls.{filled, not_filled}
-use borrow.Author.Rules.{rules}
-use Rattle.window_read.proofs.read.fill_window.Reads as fill-window-reads
 use Rattle.window.proofs.body.fill.Goals as goal
 
 pub fill_window-requires : goal.fill_window-requires

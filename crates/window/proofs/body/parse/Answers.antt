@@ -1,6 +1,5 @@
 use Rattle.window.proofs.Calls.{started, parsed, parsed_refused}
 use Rattle.core_checks.proofs.Checked.{read_numbered}
-use borrow.Author.Rules.{rules}
 use Rattle.window.proofs.body.parse.Goals as goal
 
 pub read-requires : goal.read-requires

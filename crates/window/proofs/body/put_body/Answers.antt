@@ -1,7 +1,6 @@
 use Rattle.core_write.proofs.Puts.{◌then◌}
 use Rattle.window.specs.Body.{body_length, encode_body}
 use native.Mathlib.Omega.{arith}
-use borrow.Author.Rules.{rules}
 use Rattle.window.proofs.body.put_body.Goals as goal
 
 pub put_pane-q-requires : goal.put_pane-q-requires

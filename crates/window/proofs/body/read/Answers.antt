@@ -1,9 +1,5 @@
 use Rattle.window.specs.Body.{window_read, read_quads, read_frames}
 use Rattle.window.proofs.Calls.{measured_ready}
-use borrow.Author.Rules.{rules}
-use Rattle.window.proofs.body.fill.Reads as fill-reads
-use Rattle.window.proofs.body.given.Reads as given-reads
-use Rattle.window.proofs.body.measure.Reads as measure-reads
 use Rattle.window.proofs.body.read.Goals as goal
 
 pub fill-requires : goal.fill-requires

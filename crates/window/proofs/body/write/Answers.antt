@@ -4,7 +4,6 @@ use Rattle.pane.proofs.Cleared.{sound}
 use Rattle.window.specs.Body.{window_written, window_output}
 use Rattle.window.proofs.Calls.{write_cleared}
 use native.Mathlib.Omega.{arith}
-use borrow.Author.Rules.{rules}
 use Rattle.window.proofs.body.write.Goals as goal
 
 pub put_body-end-requires : goal.put_body-end-requires

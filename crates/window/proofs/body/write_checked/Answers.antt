@@ -1,6 +1,5 @@
 use Rattle.window.proofs.Calls.{bounds, checked_end, checked_refused}
 use native.Mathlib.Omega.{arith}
-use borrow.Author.Rules.{rules}
 use Rattle.window.proofs.body.write_checked.Goals as goal
 
 pub window_length-own-requires : goal.window_length-own-requires

@@ -1,12 +1,9 @@
 use mathlib.Core.Path.{◌≡◌}
-use Prim.Native.Nat.{◌+◌, ◌-◌, ◌*◌, ◌≤◌}
+use Prim.Native.Nat.{◌+◌, ◌-◌, ◌*◌}
 use native.Mathlib.Nat.{sub-zero}
 use lib.ListN.{length-set}
-use Rattle.core_read.specs.Lists.{numbers_taken}
-use Rattle.window_read.specs.Window.{frames_taken}
-use Rattle.window_read.proofs.Filling.{Filling, filling_none, filling_more, filling_end}
+use Rattle.window_read.proofs.Filling.{filling_none, filling_more, filling_end}
 use Rattle.window_read.proofs.Run.{frames_none, frames_turn}
-use borrow.Author.Rules.{rules}
 use native.Mathlib.Omega.{arith}
 use Rattle.window_read.proofs.read.fill_frames.Goals as goal
 

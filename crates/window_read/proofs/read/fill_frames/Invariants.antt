@@ -1,13 +1,7 @@
-use mathlib.Core.Path.{◌≡◌}
-use Prim.Native.Nat.{◌+◌, ◌-◌, ◌*◌, ◌≤◌}
-use native.Mathlib.Nat.{sub-zero}
-use lib.ListN.{length-set}
+use Prim.Native.Nat.{◌-◌, ◌*◌, ◌≤◌}
 use Rattle.core_read.specs.Lists.{numbers_taken}
 use Rattle.window_read.specs.Window.{frames_taken}
-use Rattle.window_read.proofs.Filling.{Filling, filling_none, filling_more, filling_end}
-use Rattle.window_read.proofs.Run.{frames_none, frames_turn}
-use borrow.Author.Rules.{rules}
-use native.Mathlib.Omega.{arith}
+use Rattle.window_read.proofs.Filling.{Filling}
 use Rattle.window_read.proofs.read.fill_frames.Given as goal
 
 abbrev pub invariant-loop-i : goal.invariant-loop-i

@@ -1,6 +1,5 @@
 use Rattle.window_read.proofs.Run.{filled_here, not_ahead, room_here}
 use native.Mathlib.Omega.{arith}
-use borrow.Author.Rules.{rules}
 use Rattle.window_read.proofs.read.fill_quads.Goals as goal
 
 pub fill_quads-requires : goal.fill_quads-requires

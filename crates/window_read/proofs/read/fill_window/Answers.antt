@@ -1,5 +1,4 @@
 use Rattle.window_read.specs.Window.{window_quads, window_frames}
-use borrow.Author.Rules.{rules}
 use Rattle.window_read.proofs.read.fill_window.Goals as goal
 
 pub returns : goal.returns

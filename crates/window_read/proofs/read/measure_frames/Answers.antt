@@ -1,10 +1,7 @@
-use mathlib.Core.Path.{◌≡◌, refl}
-use Prim.Native.Nat.{◌-◌, ◌≤◌}
+use mathlib.Core.Path.{refl}
+use Prim.Native.Nat.{◌-◌}
 use native.Mathlib.Nat.{sub-zero}
-use Rattle.core_read.specs.Lists.{numbers_taken}
-use Rattle.window_read.specs.Window.{frames_taken}
 use Rattle.window_read.proofs.Run.{frames_none, frames_turn}
-use borrow.Author.Rules.{rules}
 use native.Mathlib.Omega.{arith}
 use Rattle.window_read.proofs.read.measure_frames.Goals as goal
 

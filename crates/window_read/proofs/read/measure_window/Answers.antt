@@ -1,6 +1,5 @@
 use Rattle.window_read.specs.Window.{window_taken}
 use native.Mathlib.Omega.{arith}
-use borrow.Author.Rules.{rules}
 use Rattle.window_read.proofs.read.measure_window.Goals as goal
 
 pub measure_frames-p4-requires : goal.measure_frames-p4-requires

@@ -1,6 +1,5 @@
 use Rattle.ui2d.specs.Material.{material_taken}
 use Rattle.window_read.specs.Window.{content_taken}
-use borrow.Author.Rules.{rules}
 use Rattle.window_read.proofs.read.take_content.Goals as goal
 
 pub returns : goal.returns

@@ -1,5 +1,4 @@
 use Rattle.window_read.specs.Window.{frame_taken}
-use borrow.Author.Rules.{rules}
 use Rattle.window_read.proofs.read.take_frame.Goals as goal
 
 pub returns : goal.returns

@@ -2,7 +2,6 @@ use Prim.Native.Nat.{◌+◌, ◌*◌}
 use Rattle.window_write.specs.Write.{content_padding}
 use Rattle.core_write.proofs.Padding.{padding_small}
 use native.Mathlib.Omega.{arith}
-use borrow.Author.Rules.{rules}
 use Rattle.window_write.proofs.write.content_padding.Goals as goal
 
 pub returns : goal.returns

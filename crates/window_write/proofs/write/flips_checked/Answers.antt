@@ -1,10 +1,9 @@
-use mathlib.Core.Path.{◌≡◌, refl, ap, sym, ◌∙◌}
-use Prim.Native.Nat.{◌+◌, ◌-◌, ◌*◌, ◌/◌, ◌≤◌, ◌<◌}
+use mathlib.Core.Path.{refl, ap, sym, ◌∙◌}
+use Prim.Native.Nat.{◌+◌, ◌-◌, ◌*◌, ◌/◌, ◌<◌}
 use lib.ListN.{length, drop}
 use Rattle.core_read.specs.declared.cursor.Place.{Place}
 use Rattle.window_write.specs.Write.{flips_checked}
 use Rattle.window_write.proofs.Puts.{flips_none, flips_turn}
-use borrow.Author.Rules.{rules}
 use native.Mathlib.Omega.{arith}
 use Rattle.window_write.proofs.write.flips_checked.Goals as goal
 

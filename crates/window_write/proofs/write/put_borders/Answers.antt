@@ -3,7 +3,6 @@ use Rattle.core_write.proofs.Puts.{◌then◌, put_as}
 use Rattle.window_write.specs.Write.{encode_borders}
 use Rattle.window_write.proofs.Signed.{sides_passed}
 use native.Mathlib.Omega.{arith}
-use borrow.Author.Rules.{rules}
 use Rattle.window_write.proofs.write.put_borders.Goals as goal
 
 pub put_sides-requires : goal.put_sides-requires

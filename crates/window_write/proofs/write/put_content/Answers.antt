@@ -2,7 +2,6 @@ use mathlib.Core.Path.{refl}
 use Rattle.core_write.proofs.Puts.{◌then◌, put_as}
 use Rattle.window_write.specs.Write.{encode_content}
 use native.Mathlib.Omega.{arith}
-use borrow.Author.Rules.{rules}
 use Rattle.window_write.proofs.write.put_content.Goals as goal
 
 pub returns : goal.returns

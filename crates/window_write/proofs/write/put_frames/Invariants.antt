@@ -1,12 +1,7 @@
-use mathlib.Core.Path.{◌≡◌, refl}
-use Prim.Native.Nat.{◌-◌, ◌*◌, ◌/◌, ◌≤◌, ◌<◌}
+use Prim.Native.Nat.{◌-◌, ◌*◌, ◌/◌, ◌≤◌}
 use lib.ListN.{length, take}
 use Rattle.core_read.specs.Bytes.{Put}
-use Rattle.core_write.proofs.Puts.{◌then◌, put_as, put_none}
 use Rattle.window_write.specs.Write.{encode_frames}
-use Rattle.window_write.proofs.Puts.{frames_more, frames_all}
-use borrow.Author.Rules.{rules}
-use native.Mathlib.Omega.{arith}
 use Rattle.window_write.proofs.write.put_frames.Given as goal
 
 abbrev pub invariant-loop-i : goal.invariant-loop-i

@@ -2,7 +2,6 @@ use mathlib.Core.Path.{refl, ap}
 use Rattle.core_read.specs.Bytes.{bytes_of}
 use Rattle.core_write.proofs.Puts.{◌then◌, put_as}
 use Rattle.window_write.specs.Write.{encode_head}
-use borrow.Author.Rules.{rules}
 use Rattle.window_write.proofs.write.put_head.Goals as goal
 
 pub returns : goal.returns

@@ -1,10 +1,9 @@
 use mathlib.Core.Path.{◌≡◌}
-use Prim.Native.Nat.{◌+◌, ◌-◌, ◌*◌, ◌≤◌}
-use Rattle.core_read.specs.Bytes.{bytes_of_all, Put}
+use Prim.Native.Nat.{◌+◌, ◌-◌, ◌*◌}
+use Rattle.core_read.specs.Bytes.{bytes_of_all}
 use Rattle.core_write.proofs.Puts.{◌then◌, put_as, put_none}
 use Rattle.window_write.specs.Write.{frame_offsets}
 use Rattle.window_write.proofs.Puts.{offsets_more}
-use borrow.Author.Rules.{rules}
 use native.Mathlib.Omega.{arith}
 use Rattle.window_write.proofs.write.put_offsets.Goals as goal
 

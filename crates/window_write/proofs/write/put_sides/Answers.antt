@@ -4,7 +4,6 @@ use mir.Facts.{to_z-of_z}
 use Rattle.core_read.specs.Bytes.{bytes_of, bits_of}
 use Rattle.core_write.proofs.Puts.{◌then◌, put_as}
 use Rattle.window_write.specs.Write.{encode_sides}
-use borrow.Author.Rules.{rules}
 use Rattle.window_write.proofs.write.put_sides.Goals as goal
 
 pub returns : goal.returns

@@ -1,6 +1,5 @@
 use mathlib.Core.Path.{◌∙◌}
 use Rattle.window_write.proofs.Puts.{flips_on, flips_stay}
-use borrow.Author.Rules.{rules}
 use Rattle.window_write.proofs.write.window_checked.Goals as goal
 
 pub returns-in-At : goal.returns-in-At

@@ -1,6 +1,5 @@
 use Rattle.window_write.specs.Write.{window_length}
 use native.Mathlib.Omega.{arith}
-use borrow.Author.Rules.{rules}
 use Rattle.window_write.proofs.write.window_length.Goals as goal
 
 pub returns : goal.returns

@@ -1,4 +1,3 @@
-use borrow.Author.Rules.{rules}
 use native.Mathlib.Omega.{arith}
 use Rattle.core_read.proofs.Cursors.{advanced_none, advanced_to}
 use Rattle.core_read.proofs.cursor.Cursor.advanced.Goals as goal

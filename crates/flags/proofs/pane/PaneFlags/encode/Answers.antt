@@ -1,5 +1,4 @@
 use Rattle.flags.specs.Fields.{pane_flags_number}
-use borrow.Author.Rules.{rules}
 use Rattle.flags.proofs.pane.PaneFlags.encode.Goals as goal
 
 pub returns : goal.returns

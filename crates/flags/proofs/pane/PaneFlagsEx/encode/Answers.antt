@@ -1,7 +1,6 @@
 use native.Mathlib.Omega.{arith}
 use Rattle.flags.specs.Packed.{pack}
 use Rattle.flags.specs.Fields.{flag_ex_number}
-use borrow.Author.Rules.{rules}
 use Rattle.flags.proofs.pane.PaneFlagsEx.encode.Goals as goal
 
 pub returns : goal.returns

@@ -1,6 +1,5 @@
 use native.Mathlib.Nat.{div-one}
 use Rattle.flags.specs.Fields.{position_of}
-use borrow.Author.Rules.{rules}
 use Rattle.flags.proofs.position.BflytPosition.decode.Goals as goal
 
 pub returns : goal.returns

@@ -3,7 +3,6 @@ use Rattle.flags.specs.declared.position.BflytPosition.{BflytPosition}
 use Rattle.flags.specs.Packed.{pack}
 use Rattle.flags.specs.Fields.{position_number}
 use Rattle.flags.proofs.Enums.{horizontal_le, vertical_le}
-use borrow.Author.Rules.{rules}
 use Rattle.flags.proofs.position.BflytPosition.encode.Goals as goal
 
 pub overflow_mul-result : goal.overflow_mul-result

@@ -2,7 +2,6 @@ use native.Mathlib.Omega.{arith}
 use Rattle.flags.specs.Packed.{pack}
 use Rattle.flags.specs.Fields.{origin_number}
 use Rattle.flags.proofs.Enums.{horizontal_le, vertical_le}
-use borrow.Author.Rules.{rules}
 use Rattle.flags.proofs.position.TextPosition.encode.Goals as goal
 
 pub overflow_mul-result : goal.overflow_mul-result

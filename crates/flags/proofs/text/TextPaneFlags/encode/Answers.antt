@@ -2,7 +2,6 @@ use mathlib.Core.Path.{ap}
 use native.Mathlib.Omega.{arith}
 use Rattle.flags.specs.Packed.{flag_number, pack}
 use Rattle.flags.specs.Fields.{text_flags_number}
-use borrow.Author.Rules.{rules}
 use Rattle.flags.proofs.text.TextPaneFlags.encode.Goals as goal
 
 pub returns : goal.returns

@@ -1,6 +1,5 @@
 use native.Mathlib.Nat.{div-one}
 use Rattle.flags.specs.Fields.{window_flags_of}
-use borrow.Author.Rules.{rules}
 use Rattle.flags.proofs.window.WindowFlags.decode.Goals as goal
 
 pub returns : goal.returns

@@ -2,7 +2,6 @@ use native.Mathlib.Omega.{arith}
 use Rattle.flags.specs.Packed.{pack}
 use Rattle.flags.specs.Fields.{window_flags_number}
 use Rattle.flags.proofs.Enums.{window_kind_le}
-use borrow.Author.Rules.{rules}
 use Rattle.flags.proofs.window.WindowFlags.encode.Goals as goal
 
 pub overflow_mul-result-2 : goal.overflow_mul-result-2

@@ -6,7 +6,7 @@ use Rattle.alignment_fields.proofs.put_alignment.Goals as goal
 
 pub returns : goal.returns
 unfolding encode_alignment
-returns c =     c.put_u32-q.ensures
+returns c = c.put_u32-q.ensures
     then c.put_u32-q-2.ensures
     then put_as refl (ap (bytes_of _ 1) c.bool_byte-last.ensures) c.put_u8-q.ensures
     then put_as refl (ap (bytes_of _ 1) c.bool_byte-vertical.ensures) c.put_u8-q-2.ensures

@@ -13,7 +13,7 @@ rest i s = take_all (length s - i) (drop i s) (omega (arith, length-drop i s))
 
 pub returns : goal.returns
 unfolding hidden
-returns c =     let s : List ℕ = c.args.s.now in
+returns c = let s : List ℕ = c.args.s.now in
     let i = c.args.i in
     let first : _ ≡ hidden_width (drop i s) = c.hidden_width-first.ensures ∙ ap hidden_width (rest i s) in
     let second : _ ≡ hidden_width (drop (i - 1) s) =

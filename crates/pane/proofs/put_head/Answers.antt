@@ -6,7 +6,7 @@ use Rattle.pane.proofs.put_head.Goals as goal
 
 pub returns : goal.returns
 unfolding encode_head
-returns c =     put_as refl (ap (bytes_of _ 1) c.encode-flags.ensures) c.put_u8-q.ensures
+returns c = put_as refl (ap (bytes_of _ 1) c.encode-flags.ensures) c.put_u8-q.ensures
     then put_as refl (ap (bytes_of _ 1) c.encode-position.ensures) c.put_u8-q-2.ensures
     then c.put_u8-q-3.ensures
     then put_as refl (ap (bytes_of _ 1) c.encode-flag_ex.ensures) c.put_u8-q-4.ensures

@@ -4,7 +4,7 @@ use Rattle.pane.proofs.put_transform.Goals as goal
 
 pub returns : goal.returns
 unfolding encode_transform
-returns c =     c.put_vector3-q.ensures
+returns c = c.put_vector3-q.ensures
     then c.put_vector3-q-2.ensures
     then c.put_vector2-q.ensures
     then c.put_vector2.ensures

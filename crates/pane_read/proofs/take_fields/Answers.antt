@@ -2,7 +2,7 @@ use Rattle.pane_read.proofs.Run.{pane_run}
 use Rattle.pane_read.proofs.take_fields.Goals as goal
 
 pub returns : goal.returns
-returns c =     pane_run _ _ _ _ _ _ _ _ _ _ _ _ _
+returns c = pane_run _ _ _ _ _ _ _ _ _ _ _ _ _
     c.take_u8-flags.ensures
     c.take_u8-position.ensures
     c.take_u8-alpha.ensures

@@ -29,22 +29,20 @@ returns-else-low_surrogate-2 c =
     (sym c.high_surrogate.ensures ∙ c.if-high_surrogate.true) c.if-units-next.false (sym c.low_surrogate-then-high_surrogate.ensures ∙ c.if-low_surrogate-2.false))
 
 pub loop-i-preserved-then-low_surrogate-2 : goal.loop-i-preserved-then-low_surrogate-2
-loop-i-preserved-then-low_surrogate-2 c =
-    (
-      omega arith,
-      c.loop-i.invariant.1
-          ∙ scan_pair _ _ c.loop-i-test.true (sym c.low_surrogate.ensures ∙ c.if-low_surrogate.false)
-          (sym c.high_surrogate.ensures ∙ c.if-high_surrogate.true) c.if-units-next.false (sym c.low_surrogate-then-high_surrogate.ensures ∙ c.if-low_surrogate-2.true),
-    )
+loop-i-preserved-then-low_surrogate-2 c = (
+  omega arith,
+  c.loop-i.invariant.1
+      ∙ scan_pair _ _ c.loop-i-test.true (sym c.low_surrogate.ensures ∙ c.if-low_surrogate.false)
+      (sym c.high_surrogate.ensures ∙ c.if-high_surrogate.true) c.if-units-next.false (sym c.low_surrogate-then-high_surrogate.ensures ∙ c.if-low_surrogate-2.true),
+)
 
 pub loop-i-preserved : goal.loop-i-preserved
-loop-i-preserved c =
-    (
-      omega arith,
-      c.loop-i.invariant.1
-          ∙ scan_single _ _ c.loop-i-test.true (sym c.low_surrogate.ensures ∙ c.if-low_surrogate.false)
-          (sym c.high_surrogate.ensures ∙ c.if-high_surrogate.false),
-    )
+loop-i-preserved c = (
+  omega arith,
+  c.loop-i.invariant.1
+      ∙ scan_single _ _ c.loop-i-test.true (sym c.low_surrogate.ensures ∙ c.if-low_surrogate.false)
+      (sym c.high_surrogate.ensures ∙ c.if-high_surrogate.false),
+)
 
 pub returns : goal.returns
 returns c = sym (c.loop-i.invariant.1 ∙ scan_out _ _ c.loop-i-test.false)

@@ -47,7 +47,7 @@ loop-j-preserved c =
     (omega arith, at_more a.s.now a.at _ c.row_of-row.ensures l.j l.invariant.1 c.if-b-low.false c.if-high-b.false)
 
 pub returns : goal.returns
-returns c =     let l = c.loop-j in
+returns c = let l = c.loop-j in
     let a = c.args in
     let n : l.j ≡ c.row_of-row.result.count = omega arith in
     at_good a.s.now a.at _ c.row_of-row.ensures (omega arith) (rw n at l.invariant.1)

@@ -16,7 +16,7 @@ pub loop-at-smaller : goal.loop-at-smaller
 loop-at-smaller c = omega (arith, c.ascii_end-at-in-loop-at.ensures)
 
 pub loop-at-preserved : goal.loop-at-preserved
-loop-at-preserved c =     let m = walked_more _ _ _ c.loop-at.invariant c.sequence_at-n.ensures c.if-n-eq0.false in
+loop-at-preserved c = let m = walked_more _ _ _ c.loop-at.invariant c.sequence_at-n.ensures c.if-n-eq0.false in
     walked_ascii _ _ _ m c.ascii_end-at-in-loop-at.ensures
 
 pub returns : goal.returns

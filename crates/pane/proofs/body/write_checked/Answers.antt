@@ -8,9 +8,9 @@ end_checked-requires c = end_small _ _ _ _ _ 76 _ c.body_start-p.ensures c.names
 
 pub returns : goal.returns
 unfolding pane_write_checked
-returns c =     rw (
-      c.end_checked.ensures,
-      c.reserve_checked-p.ensures,
-      c.names_checked-p.ensures,
-      c.body_start-p.ensures,
-    )
+returns c = rw (
+  c.end_checked.ensures,
+  c.reserve_checked-p.ensures,
+  c.names_checked-p.ensures,
+  c.body_start-p.ensures,
+)

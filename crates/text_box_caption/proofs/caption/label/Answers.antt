@@ -23,7 +23,8 @@ returns-after-place-data c =
     let x = c.args.«data» in
     let at = c.in-At.is in
     let h : within x.now _ _ ≡ false =
-        elim c.if-place-data.branch
-        [ then-place-data+else-length-data w ↦ beyond x.now _ _ w.if-place-data.true w.if-length-data.false
-        | else-place-data w ↦ outside x.now _ _ w.if-place-data.false ] in
+    elim c.if-place-data.branch [
+      | then-place-data+else-length-data w ↦ beyond x.now _ _ w.if-place-data.true w.if-length-data.false
+      | else-place-data w ↦ outside x.now _ _ w.if-place-data.false
+    ] in
     record { result_value = label_none x.now _ _ _ at h; ref_ptr_value = none_at x.now _ _ _ x.ref_ptr at h }

@@ -10,4 +10,4 @@ overflow_add-body c = omega (arith, c.requires)
 
 pub returns : goal.returns
 unfolding window_taken
-returns c =     rw (c.window_of-window.ensures, c.seek-then.ensures, c.measure_frames-p4.ensures, c.measure_u32s-frames.ensures, c.seek-table.ensures, c.measure_u32s-p3.ensures, c.take_content-content.ensures, c.seek-p2.ensures, c.take_head-head.ensures)
+returns c = rw (c.window_of-window.ensures, c.seek-then.ensures, c.measure_frames-p4.ensures, c.measure_u32s-frames.ensures, c.seek-table.ensures, c.measure_u32s-p3.ensures, c.take_content-content.ensures, c.seek-p2.ensures, c.take_head-head.ensures)

@@ -8,5 +8,5 @@ use Rattle.flags.proofs.pane.PaneFlagsEx.decode.Goals as goal
 -- `pane::PaneFlagsEx::decode` meets its contract.
 pub returns : goal.returns
 unfolding flag_ex_of
-returns c =     let five : c.args.raw / 8 % 32 ≡ c.args.raw / 8 = omega arith in
+returns c = let five : c.args.raw / 8 % 32 ≡ c.args.raw / 8 = omega arith in
     rw (div-one c.args.raw, five)

@@ -8,6 +8,8 @@ WORD = re.compile(r"[^\s(){}\[\].;,@\"«»`]+")
 
 
 def uses(name, text, words):
+    if name == "[]":
+        return "[]" in text
     if "◌" not in name:
         return name in words
     parts = [p for p in name.split("◌") if p]

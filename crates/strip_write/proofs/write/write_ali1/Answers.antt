@@ -1,3 +1,4 @@
+use mathlib.Core.List.{[]}
 use mathlib.Core.Path.{refl}
 use Rattle.strip_records.specs.Whole.{whole, ali1}
 use Rattle.strip_write.proofs.WriteKinds.{ali1_checks, place_small, fits, end_made, not_written, ali1_written}

@@ -1,3 +1,4 @@
+use mathlib.Core.List.{[]}
 use Rattle.strip_write.proofs.WriteKinds.{pan1_checks, place_small, fits, end_made, not_written, pan1_written}
 use mathlib.Core.Path.{refl}
 use Rattle.strip_records.specs.Whole.{whole, pan1}

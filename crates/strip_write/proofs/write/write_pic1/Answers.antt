@@ -1,3 +1,4 @@
+use mathlib.Core.List.{[]}
 use Rattle.picture.proofs.Cleared.{body_short}
 use Rattle.strip_records.specs.Whole.{whole, pic1}
 use Rattle.strip_write.proofs.WriteKinds.{pic1_checks, pic1_good, place_small, fits, stopped, end_made, not_written, pic1_written}

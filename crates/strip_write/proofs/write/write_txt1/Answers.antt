@@ -1,3 +1,4 @@
+use mathlib.Core.List.{[]}
 use Rattle.strip_records.specs.Whole.{whole, txt1}
 use Rattle.strip_write.proofs.WriteKinds.{txt1_checks, txt1_good, text_length, place_small, fits, stopped, end_made, not_written, txt1_written}
 use native.Mathlib.Omega.{arith}

@@ -1,3 +1,4 @@
+use mathlib.Core.List.{[]}
 use Rattle.strip_records.specs.Whole.{whole, wnd1}
 use Rattle.strip_write.proofs.WriteKinds.{wnd1_checks, wnd1_good, window_length_lem, place_small, fits, stopped, end_made, not_written, wnd1_written}
 use native.Mathlib.Omega.{arith}

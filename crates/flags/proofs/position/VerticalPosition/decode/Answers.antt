@@ -1,7 +1,7 @@
 use Prim.Native.Nat.{◌≤◌}
 use native.Mathlib.Omega.{arith}
 use mathlib.Core.Path.{sym}
-use mathlib.Core.List.{◌∷◌}
+use mathlib.Core.List.{[], ◌∷◌}
 use Rattle.flags.specs.declared.position.VerticalPosition.TheVariants.{Center, Top, Bottom}
 use Rattle.flags.proofs.Enums.{unknown_first}
 use Rattle.flags.proofs.position.VerticalPosition.decode.Goals as goal

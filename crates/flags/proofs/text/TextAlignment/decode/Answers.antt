@@ -1,6 +1,6 @@
 use native.Mathlib.Omega.{arith}
 use mathlib.Core.Path.{sym}
-use mathlib.Core.List.{◌∷◌}
+use mathlib.Core.List.{[], ◌∷◌}
 use Rattle.flags.specs.declared.text.TextAlignment.TheVariants.{Synchronous, Left, Center}
 use Rattle.flags.proofs.Enums.{unknown_last}
 use Rattle.flags.proofs.text.TextAlignment.decode.Goals as goal

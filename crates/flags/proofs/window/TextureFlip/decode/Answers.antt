@@ -1,7 +1,7 @@
 use Prim.Native.Nat.{◌≤◌}
 use native.Mathlib.Omega.{arith}
 use mathlib.Core.Path.{sym}
-use mathlib.Core.List.{◌∷◌}
+use mathlib.Core.List.{[], ◌∷◌}
 use Rattle.flags.specs.declared.window.TextureFlip.TheVariants.{None, FlipU, FlipV, Rotate90, Rotate180, Rotate270}
 use Rattle.flags.proofs.Enums.{unknown_first}
 use Rattle.flags.proofs.window.TextureFlip.decode.Goals as goal

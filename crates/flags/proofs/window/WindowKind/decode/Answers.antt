@@ -1,7 +1,7 @@
 use Prim.Native.Nat.{◌≤◌}
 use native.Mathlib.Omega.{arith}
 use mathlib.Core.Path.{sym}
-use mathlib.Core.List.{◌∷◌}
+use mathlib.Core.List.{[], ◌∷◌}
 use Rattle.flags.specs.declared.window.WindowKind.TheVariants.{Around, Horizontal, HorizontalNoContent}
 use Rattle.flags.proofs.Enums.{unknown_first}
 use Rattle.flags.proofs.window.WindowKind.decode.Goals as goal

@@ -1,9 +1,11 @@
-// Lines of hexadecimal digits on standard input, for a program's loop: it asks for more until a line has ended, answers the line, and asks again.
+// Lines of hexadecimal digits from a reader, for a program's loop: it asks for more until a line has ended, answers the line, and asks again.
 ghost use Rattle.std.specs.Prelude.{◌≡◌, cond, ◌≤◌, ◌<◌, length, take, drop};
 ghost use Rattle.digits.specs.Digits.{before_feed, bytes_after_all};
 ghost use Rattle.lines.specs.Input.{begun, current, remains, onward, refilled};
 
 use digits::Line;
+use std::io;
+use std::io::Read;
 
 // The line, whether it has ended, whether there may be more; the place in the chunk that was read, and how many bytes it has.
 #[derive(Clone, Copy)]
@@ -58,13 +60,30 @@ fn onward_in(chunk: &[u8], bytes: &mut [u8], input: Input) -> Input
     }
 }
 
+// One read into the chunk: how many bytes it has now. A failed read counts as the end, and its error is left in `failure`.
+fn read_count<R: Read>(from: &mut R, chunk: &mut [u8], failure: &mut io::Result<()>) -> usize
+    ensures { result ≤ length chunk.new }
+{
+    match from.read(chunk) {
+        Ok(count) => count,
+        Err(e) => {
+            *failure = Err(e);
+            0
+        }
+    }
+}
+
 // More bytes, read into the chunk.
-fn refill(chunk: &mut [u8], input: Input) -> Input
+fn refill<R: Read>(
+    from: &mut R,
+    chunk: &mut [u8],
+    input: Input,
+    failure: &mut io::Result<()>,
+) -> Input
     ensures { (result ≡ refilled result.count input) × (result.count ≤ length chunk.new) }
 {
     let line = current_line(input);
-    let got = libc::read(0, chunk);
-    let count = io::count(got, chunk);
+    let count = read_count(from, chunk, failure);
     Input {
         line,
         ended: (count == 0) & line.begun,
@@ -74,8 +93,14 @@ fn refill(chunk: &mut [u8], input: Input) -> Input
     }
 }
 
-// The bytes of the chunk up to a line feed; where none is left, more are read. A failed read counts as the end.
-pub fn next(chunk: &mut [u8], bytes: &mut [u8], input: Input) -> Input
+// The bytes of the chunk up to a line feed; where none is left, more are read. A failed read counts as the end, and its error is left in `failure`.
+pub fn next<R: Read>(
+    from: &mut R,
+    chunk: &mut [u8],
+    bytes: &mut [u8],
+    input: Input,
+    failure: &mut io::Result<()>,
+) -> Input
     requires { input.count ≤ length chunk.old }
     ensures value { result ≡ cond (remains input) (onward chunk.old input) (refilled result.count input) }
     ensures count_in_bounds { result.count ≤ length chunk.new }
@@ -85,6 +110,6 @@ pub fn next(chunk: &mut [u8], bytes: &mut [u8], input: Input) -> Input
     if input.at < input.count {
         onward_in(chunk, bytes, input)
     } else {
-        refill(chunk, input)
+        refill(from, chunk, input, failure)
     }
 }

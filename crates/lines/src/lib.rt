@@ -2,6 +2,7 @@
 // at a place. Each answers the place after what it put, and changes no other byte. In the modules: lines of digits from standard input (input), what a line prints
 // (answered, and back with its pane written back), and the loop of a program that prints it (program).
 #![tactic(auto)]
+
 mod answered;
 mod back;
 mod input;

@@ -1,76 +1,78 @@
 // What is shown of a record that was read: its frames; and where they are there, a shape index, the parts of a text box, a font scale, a content with a material.
 use crate::{print, print_figure, print_named, wide};
 use picture::ShapeIndex;
+use std::io;
 use strip::filled;
 use strip::record::Record;
 use text_box::{FontMeasure, Label, LineTable, Text};
 
-fn show_picture(r: Record) {
+fn show_picture(rt: &impl Print, r: Record) -> io::Result<()> {
     let picture = r.picture;
     let shape = picture.shape_info_array_index;
     match shape {
-        ShapeIndex::Absent => {}
-        ShapeIndex::Index(index) => print_named(b", shape", index as usize),
+        ShapeIndex::Absent => Ok(()),
+        ShapeIndex::Index(index) => print_named(rt, b", shape", index as usize),
     }
 }
 
-fn show_label(label: Label) {
+fn show_label(rt: &impl Print, label: Label) -> io::Result<()> {
     match label {
-        Label::Absent => {}
+        Label::Absent => Ok(()),
         Label::At { place, length } => {
-            print_named(b", label", place);
-            print_figure(length);
+            print_named(rt, b", label", place)?;
+            print_figure(rt, length)
         }
     }
 }
 
-fn show_measure(measure: FontMeasure) {
+fn show_measure(rt: &impl Print, measure: FontMeasure) -> io::Result<()> {
     match measure {
-        FontMeasure::Size(_) => {}
-        FontMeasure::Scale(_) => print(b", scale"),
+        FontMeasure::Size(_) => Ok(()),
+        FontMeasure::Scale(_) => print(rt, b", scale"),
     }
 }
 
-fn show_text(r: Record, text: Text) {
+fn show_text(rt: &impl Print, r: Record, text: Text) -> io::Result<()> {
     match text {
-        Text::Absent => {}
-        Text::Present => print_named(b", units", filled::units_filled(r)),
+        Text::Absent => Ok(()),
+        Text::Present => print_named(rt, b", units", filled::units_filled(r)),
     }
 }
 
-fn show_table(table: LineTable) {
+fn show_table(rt: &impl Print, table: LineTable) -> io::Result<()> {
     match table {
-        LineTable::Absent => {}
-        LineTable::Present { count } => print_named(b", lines", count as usize),
+        LineTable::Absent => Ok(()),
+        LineTable::Present { count } => print_named(rt, b", lines", count as usize),
     }
 }
 
-fn show_text_box(r: Record) {
+fn show_text_box(rt: &impl Print, r: Record) -> io::Result<()> {
     let text_box = r.text_box;
     let text = text_box.text;
     let label = text_box.label;
     let line_table = text_box.line_table;
     let font_measure = text_box.font_measure;
-    show_text(r, text);
-    show_label(label);
-    show_table(line_table);
-    show_measure(font_measure);
+    show_text(rt, r, text)?;
+    show_label(rt, label)?;
+    show_table(rt, line_table)?;
+    show_measure(rt, font_measure)
 }
 
 // The quads of a content and its material, where it has one.
-fn show_content(r: Record) {
+fn show_content(rt: &impl Print, r: Record) -> io::Result<()> {
     let window = r.window;
     let content = window.content;
     if content.material_index != 0 {
-        print_named(b", content", content.quad_count as usize);
-        print_figure(content.material_index as usize);
+        print_named(rt, b", content", content.quad_count as usize)?;
+        print_figure(rt, content.material_index as usize)?;
     }
+    Ok(())
 }
 
-pub(crate) fn show(r: Record) {
+pub(crate) fn show(rt: &impl Print, r: Record) -> io::Result<()> {
     let window = r.window;
-    print_named(b", frames", wide(window.frame_count));
-    show_picture(r);
-    show_text_box(r);
-    show_content(r);
+    print_named(rt, b", frames", wide(window.frame_count))?;
+    show_picture(rt, r)?;
+    show_text_box(rt, r)?;
+    show_content(rt, r)
 }

@@ -2,11 +2,13 @@
 // `pane R N SECTION` with the section's bytes in hexadecimal, or `pane R N no NUMBER a b` where the write is refused; `pass N`, `no NUMBER a b`, `end`, or `bad`. Its stored lines and
 // answers are made by the program `answers` of differential/: the sections read, and the bytes that nnbfl writes for them, but for 143 lines that nnbfl has no answer for.
 #![tactic(auto)]
-use lines::program::Printed;
 
-fn main() {
+use lines::program::Printed;
+use std::io;
+
+fn main(rt: HostRuntime) -> io::Result<()> {
     let mut chunk = [0u8; 4096];
     let mut bytes = [0u8; 4096];
     let mut out = [0u8; 65603];
-    lines::program::print_all(Printed::WrittenBack, &mut chunk, &mut bytes, &mut out);
+    lines::program::print_all(&rt, Printed::WrittenBack, &mut chunk, &mut bytes, &mut out)
 }

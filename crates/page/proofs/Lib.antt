@@ -1,4 +1,2 @@
-pub mod Again
-pub mod Lending
 pub mod OneLine
 pub mod Parts

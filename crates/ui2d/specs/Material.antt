@@ -1,4 +1,4 @@
--- A material's index and the two bytes after it: of a picture the quad count and the shape byte, of a window's content the quad count and 0, of a frame the flip and 0.
+-- A material's index and the two bytes after it: of a picture the quad count and the shape byte, of a window's content the quad count and 0.
 use Rattle.std.specs.Prelude.{ℕ, List}
 use Rattle.core_read.specs.Taken.{u8_taken, u16_taken}
 use Rattle.core_read.specs.declared.cursor.ByteOrder.{ByteOrder}

@@ -7,7 +7,7 @@ ghost use Rattle.ui2d.specs.Material.{material_taken};
 use core_read::cursor;
 use core_read::cursor::{ByteOrder, Cursor, Place};
 
-// Of a picture the bytes are the quad count and the shape byte, of a window's content the quad count and 0, of a frame the flip and 0.
+// Of a picture the bytes are the quad count and the shape byte, of a window's content the quad count and 0.
 #[derive(Clone, Copy)]
 pub struct MaterialTaken {
     pub index: u16,

@@ -1,14 +1,9 @@
 -- The body calls of an alignment pane.
-use Rattle.std.specs.Prelude.{◌≡◌, ℕ, ◌+◌, List, ◌++◌, length}
+use Rattle.std.specs.Prelude.{◌≡◌, ℕ, ◌+◌, List, ◌++◌, length, Err, None}
 use Rattle.core_read.specs.Bytes.{splice}
-use Rattle.core_checks.specs.Checks.{body_start, end_checked, reach_checked, parsed_of, unless_refused, written_of}
+use Rattle.core_checks.specs.Checks.{body_start, end_checked, reach_checked, unless_refused, written_of, Extent, Written}
 use Rattle.core_read.specs.declared.cursor.ByteOrder.{ByteOrder}
-use Rattle.core_read.specs.declared.cursor.Place.{Place}
 use Rattle.core_read.specs.declared.error.Refusal.{Refusal}
-use Rattle.core_checks.specs.declared.checks.Extent.{Extent}
-use Rattle.core_checks.specs.declared.checks.Extent.TheVariants.{Buffer}
-use Rattle.core_checks.specs.declared.checks.Parsed.TheVariants as Parseds
-use Rattle.core_checks.specs.declared.checks.Written.{Written}
 use Rattle.pane_read.specs.Pane.{pane_taken, blank_pane, encode_pane}
 use Rattle.pane_checks.specs.Checks.{texts_checked, names_checked, reserve_checked}
 use Rattle.pane_read.specs.declared.Pane.{Pane}
@@ -18,10 +13,11 @@ use Rattle.alignment_fields.specs.declared.AlignmentPane.{AlignmentPane}
 use Rattle.alignment_fields.specs.declared.AlignmentTaken.{AlignmentTaken}
 use Rattle.alignment.specs.declared.body.AlignmentMeasured.{AlignmentMeasured}
 use Rattle.alignment.specs.declared.body.AlignmentParsed.{AlignmentParsed}
+use Rattle.core_read.specs.Taken.{Place}
 
 -- what a refused read gives
 pub record Blank (why : Refusal) (r : AlignmentParsed) : Type 0 where
-  pub answer : r.answer ≡ Parseds.Refused why
+  pub answer : r.answer ≡ Err why
   pub base : r.base ≡ blank_pane
   pub alignment : r.alignment ≡ blank_alignment
 
@@ -36,7 +32,7 @@ alignment_measured order s p body extent =
 unfoldable pub alignment_given : AlignmentMeasured → AlignmentParsed
 alignment_given m =
     record {
-      answer = parsed_of m.then;
+      answer = m.then;
       base = unless_refused m.then blank_pane m.base;
       alignment = unless_refused m.then blank_alignment m.own.alignment;
     }
@@ -46,7 +42,7 @@ alignment_read order s p body extent = alignment_given (alignment_measured order
 
 -- THE BODY READ at B of s: 1, 2, and then so, in all of the buffer
 unfoldable pub alignment_parsed : ByteOrder → List ℕ → ℕ → AlignmentParsed
-alignment_parsed order s body = alignment_read order s (body_start (length s) body) body Buffer
+alignment_parsed order s body = alignment_read order s (body_start (length s) body) body None
 
 -- 1, 2, 9, 10 and 16 of a write into n bytes
 unfoldable pub alignment_write_checked : Pane → ℕ → ℕ → Place

@@ -1,5 +1,6 @@
 // The body calls of an alignment pane: any bytes are read or refused, any pane is written or refused.
 ghost use Rattle.std.specs.Prelude.{◌≡◌, ◌^◌, ◌<◌, length};
+ghost use Rattle.core_checks.specs.Answered.{Clears};
 ghost use Rattle.core_checks.specs.Checks.{parsed_by_number, written_by_number};
 ghost use Rattle.core_read.specs.Bytes.{Room, Put};
 ghost use Rattle.pane_read.specs.Pane.{Sound};
@@ -7,8 +8,7 @@ ghost use Rattle.alignment.specs.Body.{Blank, encode_body, alignment_measured, a
 
 use alignment_fields::{AlignmentPane, AlignmentTaken};
 use core_checks::checks;
-use core_checks::checks::{Extent, Parsed, Written};
-use core_read::cursor::{ByteOrder, Place};
+use core_read::cursor::{ByteOrder, Cursor, Place};
 use core_read::error::Refusal;
 use pane_checks::checks::{names_checked, reserve_checked, texts_checked};
 use pane_read::Pane;
@@ -24,7 +24,7 @@ pub struct AlignmentMeasured {
 // What a body read gives: its answer, and the pane, blank where it was refused.
 #[derive(Clone, Copy)]
 pub struct AlignmentParsed {
-    pub answer: Parsed,
+    pub answer: Result<Cursor, Refusal>,
     pub base: Pane,
     pub alignment: AlignmentPane,
 }
@@ -33,7 +33,7 @@ fn refused(why: Refusal) -> AlignmentParsed
     ensures { Blank why result }
 {
     AlignmentParsed {
-        answer: Parsed::Refused(why),
+        answer: Err(why),
         base: pane_read::blank_pane(),
         alignment: alignment_fields::blank_alignment(),
     }
@@ -45,7 +45,7 @@ pub fn measure(
     data: &[u8],
     p: Place,
     place: usize,
-    extent: Extent,
+    extent: Option<usize>,
 ) -> AlignmentMeasured
     requires { place < 2 ^ 32 }
     ensures { result ≡ alignment_measured order «data».now p place extent }
@@ -69,15 +69,15 @@ pub fn given(m: AlignmentMeasured) -> AlignmentParsed
     let alignment = own.alignment;
     let then = m.then;
     match then {
-        Place::At(c) => {
-            let answer = checks::read_to(c);
+        Ok(c) => {
+            let answer = Ok(c);
             AlignmentParsed {
                 answer,
                 base,
                 alignment,
             }
         }
-        Place::Refused(why) => refused(why),
+        Err(why) => refused(why),
     }
 }
 
@@ -87,7 +87,7 @@ pub fn read(
     data: &[u8],
     p: Place,
     place: usize,
-    extent: Extent,
+    extent: Option<usize>,
 ) -> AlignmentParsed
     requires { place < 2 ^ 32 }
     ensures { result ≡ alignment_read order «data».now p place extent }
@@ -103,19 +103,20 @@ pub fn parse(order: ByteOrder, data: &[u8], place: usize) -> AlignmentParsed
 {
     let p = checks::body_start(data.len(), place);
     match p {
-        Place::At(c) => read(order, data, Place::At(c), place, Extent::Buffer),
-        Place::Refused(why) => refused(why),
+        Ok(c) => read(order, data, Ok(c), place, None),
+        Err(why) => refused(why),
     }
 }
 
 // 1, 2, 9, 10 and 16
-fn write_checked(b: Pane, length: usize, place: usize) -> Place
-    ensures { result ≡ alignment_write_checked b length place }
+#[tactic(auto, using(core_checks::proofs::Checked::body_started), unfolding(crate::specs::Body::alignment_write_checked, pane_checks::specs::Checks::names_checked, pane_checks::specs::Checks::reserve_checked, core_checks::specs::Checks::end_checked, core_read::specs::Taken::stop_if))]
+fn write_checked(b: Pane, length: usize, place: usize) -> Result<(), Refusal>
+    ensures { Clears result (alignment_write_checked b length place) place }
 {
-    let p = checks::body_start(length, place);
-    let p = names_checked(p, b);
-    let p = reserve_checked(p, b);
-    checks::end_checked(p, place, 88, length)
+    checks::body_start(length, place)?;
+    names_checked(b)?;
+    reserve_checked(b)?;
+    checks::end_checked(place, 88, length)
 }
 
 // The base, and what the kind adds.
@@ -128,17 +129,18 @@ pub fn put_body(order: ByteOrder, out: &mut [u8], p: usize, b: Pane, a: Alignmen
 }
 
 // The alignment pane at a place: checks 1, 2, 9, 10, 16. A refusal leaves the output as it was; an accepted write answers its end, and changes no byte but its own.
-pub fn write(order: ByteOrder, b: Pane, a: AlignmentPane, out: &mut [u8], place: usize) -> Written
+#[tactic(auto, using(crate::proofs::Cleared::write_cleared, pane::proofs::Cleared::sound), unfolding(crate::specs::Body::alignment_written, crate::specs::Body::alignment_output, core_checks::specs::Checks::written_of, core_checks::specs::Checks::unless_refused))]
+pub fn write(
+    order: ByteOrder,
+    b: Pane,
+    a: AlignmentPane,
+    out: &mut [u8],
+    place: usize,
+) -> Result<usize, Refusal>
     ensures value { result ≡ alignment_written b (length out.old) place }
     ensures out_after { out.new ≡ alignment_output order b a out.old place }
     ensures result_value { written_by_number result ≡ written_by_number (alignment_written b (length out.old) place) }
 {
-    let p = write_checked(b, out.len(), place);
-    match p {
-        Place::At(_) => {
-            let end = put_body(order, out, place, b, a);
-            Written::End(end)
-        }
-        Place::Refused(why) => Written::Refused(why),
-    }
+    write_checked(b, out.len(), place)?;
+    Ok(put_body(order, out, place, b, a))
 }

@@ -1,19 +1,21 @@
--- The 12 bytes of an alignment pane where they are there: each field at its offset.
-use mathlib.Core.Path.{◌≡◌}
+-- The 12 bytes of an alignment pane where they are there: each field at its offset. And the byte of a bool.
+use mathlib.Core.Path.{◌≡◌, refl}
 use Prim.Native.Nat.{ℕ, ◌+◌, ◌≤◌}
 use native.Mathlib.Omega.{arith}
+use mathlib.Core.Bool.{Bool, true, false}
 use mathlib.Core.List.{List}
+use mir.Val.{bool_byte as from_bool}
 use lib.ListN.{length, get_or}
 use Rattle.core_read.specs.Bytes.{number_at}
 use Rattle.core_read.specs.Taken.{advanced}
 use Rattle.core_read.specs.declared.cursor.ByteOrder.{ByteOrder}
 use Rattle.core_read.specs.declared.cursor.Cursor.{Cursor}
-use Rattle.core_read.specs.declared.cursor.Place.TheVariants.{At}
 use Rattle.core_read.proofs.Lists.{number_here}
 use Rattle.core_read.proofs.Here.{number_there, byte_there}
 use Rattle.floats.specs.Floats.{float}
-use Rattle.alignment_fields.specs.Alignment.{byte_bool, alignment_taken}
+use Rattle.alignment_fields.specs.Alignment.{byte_bool, bool_byte, alignment_taken}
 use Rattle.alignment_fields.specs.declared.AlignmentTaken.{AlignmentTaken}
+use Rattle.std.specs.Prelude.{Ok}
 
 pub alignment_made : (order : ByteOrder) (s : List ℕ) (c : Cursor) → c.pos + 12 ≤ length s → (direction margin : ℕ) (d : Cursor)
     → direction ≡ number_at order 4 s c.pos → margin ≡ number_at order 4 s (c.pos + 4) → d ≡ advanced c 12
@@ -24,8 +26,8 @@ pub alignment_made : (order : ByteOrder) (s : List ℕ) (c : Cursor) → c.pos +
         is_align_last_pane = byte_bool (get_or s (c.pos + 8) 0);
         is_vertical_alignment = byte_bool (get_or s (c.pos + 9) 0);
       };
-      then = At d;
-    }) (alignment_taken order s (At c))
+      then = Ok d;
+    }) (alignment_taken order s (Ok c))
 unfolding alignment_taken
 alignment_made order s c h direction margin d e f g =
     rw (
@@ -38,3 +40,8 @@ alignment_made order s c h direction margin d e f g =
       f,
       g,
     )
+
+-- the byte that the language makes of a bool
+pub byte_from : (b : Bool) → from_bool b ≡ bool_byte b
+byte_from true = refl
+byte_from false = refl

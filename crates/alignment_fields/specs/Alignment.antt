@@ -1,12 +1,9 @@
 -- What an alignment pane has beyond the base, 12 bytes: direction u32, margin float, two bool bytes (nonzero is true), u16 0.
 use Rattle.std.specs.Prelude.{ℕ, ◌^◌, ◌<◌, Bool, false, not, cond, List, ◌++◌, eqb}
 use Rattle.core_read.specs.Bytes.{bytes_of}
-use Rattle.core_read.specs.Taken.{u8_taken, u16_taken, u32_taken}
+use Rattle.core_read.specs.Taken.{u8_taken, u16_taken, u32_taken, Place}
+use Rattle.core_read.specs.declared.cursor.Taken.{Taken}
 use Rattle.core_read.specs.declared.cursor.ByteOrder.{ByteOrder}
-use Rattle.core_read.specs.declared.cursor.Place.{Place}
-use Rattle.core_read.specs.declared.cursor.U8Taken.{U8Taken}
-use Rattle.core_read.specs.declared.cursor.U16Taken.{U16Taken}
-use Rattle.core_read.specs.declared.cursor.U32Taken.{U32Taken}
 use Rattle.floats.specs.Floats.{float}
 use Rattle.alignment_fields.specs.declared.AlignmentPane.{AlignmentPane}
 use Rattle.alignment_fields.specs.declared.AlignmentTaken.{AlignmentTaken}
@@ -20,11 +17,11 @@ bool_byte b = cond b 1 0
 
 unfoldable pub alignment_taken : ByteOrder → List ℕ → Place → AlignmentTaken
 alignment_taken order s p =
-    let direction : U32Taken = u32_taken order s p in
-    let margin : U32Taken = u32_taken order s direction.then in
-    let last : U8Taken = u8_taken order s margin.then in
-    let vertical : U8Taken = u8_taken order s last.then in
-    let reserve : U16Taken = u16_taken order s vertical.then in
+    let direction : Taken ℕ = u32_taken order s p in
+    let margin : Taken ℕ = u32_taken order s direction.then in
+    let last : Taken ℕ = u8_taken order s margin.then in
+    let vertical : Taken ℕ = u8_taken order s last.then in
+    let reserve : Taken ℕ = u16_taken order s vertical.then in
     record {
       alignment = record {
         direction = direction.value;

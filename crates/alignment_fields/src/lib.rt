@@ -3,8 +3,7 @@
 
 ghost use Rattle.std.specs.Prelude.{◌≡◌};
 ghost use Rattle.core_read.specs.Bytes.{Room, Put};
-ghost use Rattle.core_read.specs.declared.cursor.Place.TheVariants.{At};
-ghost use Rattle.alignment_fields.specs.Alignment.{bool_byte, alignment_taken, blank_alignment, encode_alignment, TypedAlignment};
+ghost use Rattle.alignment_fields.specs.Alignment.{alignment_taken, blank_alignment, encode_alignment, TypedAlignment};
 
 use core_read::cursor;
 use core_read::cursor::{ByteOrder, Cursor, Place};
@@ -53,7 +52,7 @@ fn take_fields(order: ByteOrder, data: &[u8], p: Place) -> AlignmentTaken
 // The fields of the 12 bytes at a cursor.
 fn alignment_at(order: ByteOrder, data: &[u8], c: Cursor) -> AlignmentTaken
     requires { Room «data».now c.pos 12 }
-    ensures { result ≡ alignment_taken order «data».now (At c) }
+    ensures { result ≡ alignment_taken order «data».now (Ok c) }
 {
     let at = c.pos;
     let last = data[at + 8];
@@ -67,7 +66,7 @@ fn alignment_at(order: ByteOrder, data: &[u8], c: Cursor) -> AlignmentTaken
             is_align_last_pane: last != 0,
             is_vertical_alignment: vertical != 0,
         },
-        then: Place::At(c.advanced(12)),
+        then: Ok(c.advanced(12)),
     }
 }
 
@@ -76,16 +75,16 @@ pub fn take_alignment(order: ByteOrder, data: &[u8], p: Place) -> AlignmentTaken
     ensures { result ≡ alignment_taken order «data».now p }
 {
     match p {
-        Place::At(c) => {
+        Ok(c) => {
             let at = c.pos;
             if at < data.len() {
                 if 12 <= data.len() - at {
                     return alignment_at(order, data, c);
                 }
             }
-            take_fields(order, data, Place::At(c))
+            take_fields(order, data, Ok(c))
         }
-        Place::Refused(why) => take_fields(order, data, Place::Refused(why)),
+        Err(why) => take_fields(order, data, Err(why)),
     }
 }
 
@@ -100,18 +99,12 @@ pub fn blank_alignment() -> AlignmentPane
     }
 }
 
-fn bool_byte(b: bool) -> u8
-    ensures { result ≡ bool_byte b }
-{
-    if b { 1 } else { 0 }
-}
-
 pub fn put_alignment(order: ByteOrder, out: &mut [u8], p: usize, a: AlignmentPane) -> usize
     requires { Room out.old p 12 }
     ensures { Put out.old p 12 (encode_alignment order a) result out.new }
 {
-    let last = bool_byte(a.is_align_last_pane);
-    let vertical = bool_byte(a.is_vertical_alignment);
+    let last = u8::from(a.is_align_last_pane);
+    let vertical = u8::from(a.is_vertical_alignment);
     let q = writer::put_u32(order, out, p, a.direction);
     let q = writer::put_u32(order, out, q, a.default_margin.bits);
     let q = writer::put_u8(order, out, q, last);

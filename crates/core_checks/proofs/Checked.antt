@@ -6,20 +6,14 @@ use native.Mathlib.Omega.{arith}
 use mathlib.Core.Bool.{Bool, true, false, ◌||◌}
 use lib.Dec.{ltb}
 use borrow.Author.Tests.{ltb-false, le-ltb}
-use Rattle.core_read.specs.Taken.{start, stop_if}
-use Rattle.core_checks.specs.Checks.{length_checked, body_checked, section_checked, body_start, section_start, list_checked, count_bad, count_checked, end_checked, reach_checked, unless_refused, written_of, parsed_by_number, written_by_number}
+use Rattle.core_read.specs.Taken.{start, stop_if, Place}
+use Rattle.core_checks.specs.Checks.{length_checked, body_checked, section_checked, body_start, section_start, list_checked, count_bad, count_checked, end_checked, reach_checked, unless_refused, written_of, parsed_by_number, written_by_number, Extent, Written}
 use Rattle.core_read.specs.Bytes.{splice, Put}
 use Rattle.core_read.specs.declared.error.Refusal.{Refusal}
 use Rattle.core_read.specs.declared.error.Refusal.TheVariants.{OutputEnd, PastSection}
-use Rattle.core_checks.specs.declared.checks.Extent.{Extent}
-use Rattle.core_checks.specs.declared.checks.Extent.TheVariants.{Buffer, Section}
-use Rattle.core_checks.specs.declared.checks.Parsed.{Parsed}
-use Rattle.core_checks.specs.declared.checks.Written.{Written}
-use Rattle.core_checks.specs.declared.checks.Written.TheVariants as Writtens
 use Rattle.core_read.specs.declared.cursor.Cursor.{Cursor}
-use Rattle.core_read.specs.declared.cursor.Place.{Place}
-use Rattle.core_read.specs.declared.cursor.Place.TheVariants.{At, Refused}
 use Rattle.core_read.proofs.Runs.{cleared, passed}
+use Rattle.std.specs.Prelude.{Err, None, Ok, Some}
 
 pub or_false : (a b : Bool) → (a || b) ≡ false → (a ≡ false) × (b ≡ false)
 or_false true b e = (e, cc)
@@ -27,18 +21,18 @@ or_false false b e = (refl, e)
 
 -- ---- passed
 
-pub length_cleared : (p : Place) (n : ℕ) (c : Cursor) → length_checked p n ≡ At c → (p ≡ At c) × (n ≤ 16777216)
+pub length_cleared : (p : Place) (n : ℕ) (c : Cursor) → length_checked p n ≡ Ok c → (p ≡ Ok c) × (n ≤ 16777216)
 unfolding length_checked
 length_cleared p n c e = let h = cleared p _ _ c e in (h.0, ltb-false _ _ h.1)
 
-pub body_cleared : (p : Place) (n b : ℕ) (c : Cursor) → body_checked p n b ≡ At c → (p ≡ At c) × (8 ≤ b) × (b ≤ n)
+pub body_cleared : (p : Place) (n b : ℕ) (c : Cursor) → body_checked p n b ≡ Ok c → (p ≡ Ok c) × (8 ≤ b) × (b ≤ n)
 unfolding body_checked
 body_cleared p n b c e =
     let h = cleared _ _ _ c e in
     let k = cleared p _ _ c h.0 in
     (k.0, ltb-false _ _ k.1, ltb-false _ _ h.1)
 
-pub section_cleared : (p : Place) (n place : ℕ) (c : Cursor) → section_checked p n place ≡ At c → (p ≡ At c) × (place ≤ n) × (place % 4 ≡ 0)
+pub section_cleared : (p : Place) (n place : ℕ) (c : Cursor) → section_checked p n place ≡ Ok c → (p ≡ Ok c) × (place ≤ n) × (place % 4 ≡ 0)
 unfolding section_checked
 section_cleared p n place c e =
     let h = cleared _ _ _ c e in
@@ -46,11 +40,11 @@ section_cleared p n place c e =
     let z : place % 4 ≤ 0 = ltb-false _ _ h.1 in
     (k.0, ltb-false _ _ k.1, omega arith)
 
-pub list_cleared : (p : Place) (list need n : ℕ) (c : Cursor) → list_checked p list need n ≡ At c → (p ≡ At c) × (need ≤ n)
+pub list_cleared : (p : Place) (list need n : ℕ) (c : Cursor) → list_checked p list need n ≡ Ok c → (p ≡ Ok c) × (need ≤ n)
 unfolding list_checked
 list_cleared p list need n c e = let h = cleared p _ _ c e in (h.0, ltb-false _ _ h.1)
 
-pub count_cleared : (p : Place) (list w n : ℕ) (c : Cursor) → count_checked p list w n ≡ At c → (p ≡ At c) × (n % w ≡ 0) × (n ≤ 255 * w)
+pub count_cleared : (p : Place) (list w n : ℕ) (c : Cursor) → count_checked p list w n ≡ Ok c → (p ≡ Ok c) × (n % w ≡ 0) × (n ≤ 255 * w)
 unfolding count_checked count_bad
 count_cleared p list w n c e =
     let h = cleared p _ _ c e in
@@ -58,49 +52,49 @@ count_cleared p list w n c e =
     let z : n % w ≤ 0 = ltb-false _ _ k.0 in
     (h.0, omega (arith, z), ltb-false _ _ k.1)
 
-pub end_cleared : (p : Place) (end n : ℕ) (c : Cursor) → end_checked p end n ≡ At c → (p ≡ At c) × (end ≤ n)
+pub end_cleared : (p : Place) (end n : ℕ) (c : Cursor) → end_checked p end n ≡ Ok c → (p ≡ Ok c) × (end ≤ n)
 unfolding end_checked
 end_cleared p end n c e = let h = cleared p _ _ c e in (h.0, ltb-false _ _ h.1)
 
 -- 19: in any extent the run stood there before; in a section it kept to it
-pub reach_cleared : (p : Place) (x : Extent) (c : Cursor) → reach_checked p x ≡ At c → p ≡ At c
+pub reach_cleared : (p : Place) (x : Extent) (c : Cursor) → reach_checked p x ≡ Ok c → p ≡ Ok c
 unfolding reach_checked
-reach_cleared p Buffer c e = e
-reach_cleared (At d) (Section end) c e = (cleared (At d) _ _ c e).0
-reach_cleared (Refused why) (Section end) c e = e
+reach_cleared p None c e = e
+reach_cleared (Ok d) (Some end) c e = (cleared (Ok d) _ _ c e).0
+reach_cleared (Err why) (Some end) c e = e
 
-pub reach_kept : (p : Place) (end : ℕ) (c : Cursor) → reach_checked p (Section end) ≡ At c → c.reach ≤ end
+pub reach_kept : (p : Place) (end : ℕ) (c : Cursor) → reach_checked p (Some end) ≡ Ok c → c.reach ≤ end
 unfolding reach_checked
-reach_kept (At d) end c e =
-    let h = cleared (At d) (ltb end d.reach) (PastSection d.reach end) c e in
+reach_kept (Ok d) end c e =
+    let h = cleared (Ok d) (ltb end d.reach) (PastSection d.reach end) c e in
     let k : d ≡ c = cc h.0 in
     rw (← k) (ltb-false end d.reach h.1)
-reach_kept (Refused why) end c e = let z : ◌≡◌ {A = ℕ} 0 1 = cc in absurd (omega arith)
+reach_kept (Err why) end c e = let z : ◌≡◌ {A = ℕ} 0 1 = cc in absurd (omega arith)
 
-pub reach_stays : (why : Refusal) (x : Extent) → reach_checked (Refused why) x ≡ Refused why
+pub reach_stays : (why : Refusal) (x : Extent) → reach_checked (Err why) x ≡ Err why
 unfolding reach_checked
-reach_stays why Buffer = refl
-reach_stays why (Section end) = refl
+reach_stays why None = refl
+reach_stays why (Some end) = refl
 
 -- the same check, as the code makes it
 module _ (p : Place) (x : Extent) where
-  pub reach_here : (c : Cursor) (end : ℕ) → p ≡ At c → x ≡ Section end → stop_if (At c) (ltb end c.reach) (PastSection c.reach end) ≡ reach_checked p x
+  pub reach_here : (c : Cursor) (end : ℕ) → p ≡ Ok c → x ≡ Some end → stop_if (Ok c) (ltb end c.reach) (PastSection c.reach end) ≡ reach_checked p x
   unfolding reach_checked
   reach_here c end e f = rw (e, f)
 
-  pub reach_free : (c : Cursor) → p ≡ At c → x ≡ Buffer → At c ≡ reach_checked p x
+  pub reach_free : (c : Cursor) → p ≡ Ok c → x ≡ None → Ok c ≡ reach_checked p x
   unfolding reach_checked
   reach_free c e f = rw (e, f)
 
-  pub reach_refused : (why : Refusal) → p ≡ Refused why → Refused why ≡ reach_checked p x
+  pub reach_refused : (why : Refusal) → p ≡ Err why → Err why ≡ reach_checked p x
   reach_refused why e = sym (reach_stays why x) ∙ ap (λ (q : Place). reach_checked q x) (sym e)
 
 -- 16, as the code makes it
-pub end_here : (p : Place) (end n : ℕ) (c : Cursor) → p ≡ At c → stop_if (At c) (ltb n end) (OutputEnd end n) ≡ end_checked p end n
+pub end_here : (p : Place) (end n : ℕ) (c : Cursor) → p ≡ Ok c → stop_if (Ok c) (ltb n end) (OutputEnd end n) ≡ end_checked p end n
 unfolding end_checked
 end_here p end n c e = rw e
 
-pub end_stays : (p : Place) (end n : ℕ) (why : Refusal) → p ≡ Refused why → Refused why ≡ end_checked p end n
+pub end_stays : (p : Place) (end n : ℕ) (why : Refusal) → p ≡ Err why → Err why ≡ end_checked p end n
 unfolding end_checked stop_if
 end_stays p end n why e = rw e
 
@@ -115,17 +109,17 @@ pub record SectionOk (n place : ℕ) : Type 0 where
   pub within : place ≤ n
   pub whole : place % 4 ≡ 0
 
-at_start : (b : ℕ) (c : Cursor) → At (start b) ≡ At c → c ≡ start b
+at_start : (b : ℕ) (c : Cursor) → ◌≡◌ {A = Place} (Ok (start b)) (Ok c) → c ≡ start b
 at_start b c e = cc
 
-pub body_started : (n b : ℕ) (c : Cursor) → body_start n b ≡ At c → (c ≡ start b) × BodyOk n b
+pub body_started : (n b : ℕ) (c : Cursor) → body_start n b ≡ Ok c → (c ≡ start b) × BodyOk n b
 unfolding body_start
 body_started n b c e =
     let (h, l, w) = body_cleared _ n b c e in
     let (k, m) = length_cleared _ n c h in
     (at_start b c k, record { most = m; least = l; within = w })
 
-pub section_started : (n place : ℕ) (c : Cursor) → section_start n place ≡ At c → (c ≡ start place) × SectionOk n place
+pub section_started : (n place : ℕ) (c : Cursor) → section_start n place ≡ Ok c → (c ≡ start place) × SectionOk n place
 unfolding section_start
 section_started n place c e =
     let (h, w, z) = section_cleared _ n place c e in
@@ -134,48 +128,48 @@ section_started n place c e =
 
 -- ---- let through
 
-pub body_passes : (n b : ℕ) → BodyOk n b → body_start n b ≡ At (start b)
+pub body_passes : (n b : ℕ) → BodyOk n b → body_start n b ≡ Ok (start b)
 unfolding body_start body_checked length_checked stop_if
 body_passes n b h = rw (le-ltb 16777216 n h.most, le-ltb b 8 h.least, le-ltb n b h.within)
 
-pub section_passes : (n place : ℕ) → SectionOk n place → section_start n place ≡ At (start place)
+pub section_passes : (n place : ℕ) → SectionOk n place → section_start n place ≡ Ok (start place)
 unfolding section_start section_checked length_checked stop_if
 section_passes n place h = rw (le-ltb 16777216 n h.most, le-ltb n place h.within, h.whole)
 
-pub list_passes : (c : Cursor) (list need n : ℕ) → need ≤ n → list_checked (At c) list need n ≡ At c
+pub list_passes : (c : Cursor) (list need n : ℕ) → need ≤ n → list_checked (Ok c) list need n ≡ Ok c
 unfolding list_checked
 list_passes c list need n h = passed c _ _ (le-ltb n need h)
 
-pub end_passes : (c : Cursor) (end n : ℕ) → end ≤ n → end_checked (At c) end n ≡ At c
+pub end_passes : (c : Cursor) (end n : ℕ) → end ≤ n → end_checked (Ok c) end n ≡ Ok c
 unfolding end_checked
 end_passes c end n h = passed c _ _ (le-ltb n end h)
 
 -- of any run, refused or not
 pub list_enough : (p : Place) (list need n : ℕ) → need ≤ n → list_checked p list need n ≡ p
 unfolding list_checked stop_if
-list_enough (At c) list need n h = rw (le-ltb n need h)
-list_enough (Refused why) list need n h = refl
+list_enough (Ok c) list need n h = rw (le-ltb n need h)
+list_enough (Err why) list need n h = refl
 
-pub reach_passes : (c : Cursor) (end : ℕ) → c.reach ≤ end → reach_checked (At c) (Section end) ≡ At c
+pub reach_passes : (c : Cursor) (end : ℕ) → c.reach ≤ end → reach_checked (Ok c) (Some end) ≡ Ok c
 unfolding reach_checked
 reach_passes c end h = passed c _ _ (le-ltb end c.reach h)
 
 -- ---- what a write answers, and the output after it
 
 -- whatever a refusal would have kept
-pub wrote : {o o' e : List ℕ} {at w r : ℕ} {c : Cursor} (p : Place) (kept : List ℕ) → p ≡ At c → Put o at w e r o'
-    → (Writtens.End r ≡ written_of p (at + w)) × (o' ≡ unless_refused p kept (splice o at e))
+pub wrote : {o o' e : List ℕ} {at w r : ℕ} {c : Cursor} (p : Place) (kept : List ℕ) → p ≡ Ok c → Put o at w e r o'
+    → (Ok r ≡ written_of p (at + w)) × (o' ≡ unless_refused p kept (splice o at e))
 unfolding written_of unless_refused
 wrote p kept h k = rw (h, k.place, k.bytes) (refl, refl)
 
-pub not_wrote : (o new : List ℕ) (end : ℕ) (p : Place) (why : Refusal) → p ≡ Refused why
-    → (Writtens.Refused why ≡ written_of p end) × (o ≡ unless_refused p o new)
+pub not_wrote : (o new : List ℕ) (end : ℕ) (p : Place) (why : Refusal) → p ≡ Err why
+    → (Err why ≡ written_of p end) × (o ≡ unless_refused p o new)
 unfolding written_of unless_refused
 not_wrote o new end p why h = rw h (refl, refl)
 
 -- ---- what is known by the case is known by its number
 
-pub read_numbered : {P : Type 0} {r w : P} → r ≡ w → (answer : P → Parsed) → parsed_by_number (answer r) ≡ parsed_by_number (answer w)
+pub read_numbered : {P : Type 0} {r w : P} → r ≡ w → (answer : P → Place) → parsed_by_number (answer r) ≡ parsed_by_number (answer w)
 read_numbered e answer = ap (λ x. parsed_by_number (answer x)) e
 
 pub write_numbered : {B : Type 0} {r w : Written} → (r ≡ w) × B → (r ≡ w) × (B × (written_by_number r ≡ written_by_number w))

@@ -1,16 +1,17 @@
 -- The checks that calls share, in the order of document 01's table and then document 02's, and what calls answer.
-use Rattle.std.specs.Prelude.{ℕ, ◌*◌, ◌%◌, Bool, ◌||◌, [], ◌∷◌, ltb}
+use Rattle.std.specs.Prelude.{ℕ, ◌*◌, ◌%◌, Bool, ◌||◌, [], ◌∷◌, ltb, Err, None, Ok, Some, Result, Option}
 use Rattle.core_read.specs.Refusals.{ByNumber, accepted, refusal_by_number}
-use Rattle.core_read.specs.Taken.{start, stop_if}
+use Rattle.core_read.specs.Taken.{start, stop_if, Place}
+use Rattle.core_read.specs.declared.error.Refusal.{Refusal}
 use Rattle.core_read.specs.declared.error.Refusal.TheVariants.{TooLong, BadPlace, ShortList, ListLength, OutputEnd, PastSection}
-use Rattle.core_read.specs.declared.cursor.Place.{Place}
-use Rattle.core_read.specs.declared.cursor.Place.TheVariants.{At, Refused}
-use Rattle.core_checks.specs.declared.checks.Extent.{Extent}
-use Rattle.core_checks.specs.declared.checks.Extent.TheVariants.{Buffer, Section}
-use Rattle.core_checks.specs.declared.checks.Parsed.{Parsed}
-use Rattle.core_checks.specs.declared.checks.Parsed.TheVariants as Parseds
-use Rattle.core_checks.specs.declared.checks.Written.{Written}
-use Rattle.core_checks.specs.declared.checks.Written.TheVariants as Writtens
+
+-- what a write answers: the end of what it wrote, or why not
+abbrev pub Written : Type 0
+Written = Result ℕ Refusal
+
+-- what a body that is read may look at: all of the buffer, or its section up to the section's end
+abbrev pub Extent : Type 0
+Extent = Option ℕ
 
 -- 1: a buffer, or a label to write, of n bytes, longer than 16,777,216
 unfoldable pub length_checked : Place → ℕ → Place
@@ -26,10 +27,10 @@ section_checked p n place = stop_if (stop_if p (ltb n place) (BadPlace place)) (
 
 -- 1 and 2 of a buffer of n bytes, from which a run begins
 unfoldable pub body_start : ℕ → ℕ → Place
-body_start n b = body_checked (length_checked (At (start b)) n) n b
+body_start n b = body_checked (length_checked (Ok (start b)) n) n b
 
 unfoldable pub section_start : ℕ → ℕ → Place
-section_start n place = section_checked (length_checked (At (start place)) n) n place
+section_start n place = section_checked (length_checked (Ok (start place)) n) n place
 
 -- 3: a lent list of n numbers is short of its need
 unfoldable pub list_checked : Place → ℕ → ℕ → ℕ → Place
@@ -48,35 +49,30 @@ end_checked p end n = stop_if p (ltb n end) (OutputEnd end n)
 
 -- 19, of a body that is read in a section: the first place past all bytes that it read is past the section's end. In a buffer nothing is checked
 unfoldable pub reach_checked : Place → Extent → Place
-reach_checked p Buffer = p
-reach_checked (At c) (Section end) = stop_if (At c) (ltb end c.reach) (PastSection c.reach end)
-reach_checked (Refused why) (Section end) = Refused why
+reach_checked p None = p
+reach_checked (Ok c) (Some end) = stop_if (Ok c) (ltb end c.reach) (PastSection c.reach end)
+reach_checked (Err why) (Some end) = Err why
 
 -- ---- what a run answers
 
--- a body read: the place after the body, and the first place past all bytes that it read
-unfoldable pub parsed_of : Place → Parsed
-parsed_of (At c) = Parseds.Read c.pos c.reach
-parsed_of (Refused why) = Parseds.Refused why
-
 -- the value read, or the blank one where the run was refused
 unfoldable pub unless_refused : {A : Type 0} → Place → A → A → A
-unless_refused (At c) blank value = value
-unless_refused (Refused why) blank value = blank
+unless_refused (Ok c) blank value = value
+unless_refused (Err why) blank value = blank
 
 -- a write: its end
 unfoldable pub written_of : Place → ℕ → Written
-written_of (At c) end = Writtens.End end
-written_of (Refused why) end = Writtens.Refused why
+written_of (Ok c) end = Ok end
+written_of (Err why) end = Err why
 
 -- ---- these answers by the papers' numbers
 
 -- the place after the body, and how far the read looked
-abbrev pub parsed_by_number : Parsed → ByNumber
-parsed_by_number (Parseds.Read end reach) = accepted (end ∷ reach ∷ [])
-parsed_by_number (Parseds.Refused why) = refusal_by_number why
+abbrev pub parsed_by_number : Place → ByNumber
+parsed_by_number (Ok c) = accepted (c.pos ∷ c.reach ∷ [])
+parsed_by_number (Err why) = refusal_by_number why
 
 -- the end of what was written
 abbrev pub written_by_number : Written → ByNumber
-written_by_number (Writtens.End end) = accepted (end ∷ [])
-written_by_number (Writtens.Refused why) = refusal_by_number why
+written_by_number (Ok end) = accepted (end ∷ [])
+written_by_number (Err why) = refusal_by_number why

@@ -1,78 +1,63 @@
 // The checks that calls share, each a step of a run, and what calls answer.
 ghost use Rattle.std.specs.Prelude.{◌≡◌, ◌+◌, ◌^◌, ◌≤◌, ◌<◌};
-ghost use Rattle.core_checks.specs.Checks.{length_checked, body_checked, section_checked, body_start, section_start, list_checked, count_checked, end_checked, reach_checked, parsed_of};
+ghost use Rattle.core_checks.specs.Answered.{Lets};
+ghost use Rattle.core_checks.specs.Checks.{length_checked, body_checked, section_checked, body_start, section_start, list_checked, count_checked, end_checked, reach_checked};
 
 use core_read::cursor;
 use core_read::cursor::{Cursor, Place};
 use core_read::error::Refusal;
 
-// What a body read answers: the place after the body and how far it looked, or why not.
-#[derive(Clone, Copy)]
-pub enum Parsed {
-    Read { end: usize, reach: usize },
-    Refused(Refusal),
-}
-
-// What a write answers: the end of what it wrote, or why not.
-#[derive(Clone, Copy)]
-pub enum Written {
-    End(usize),
-    Refused(Refusal),
-}
-
-// What a body that is read may look at: all of the buffer, or its section up to the section's end.
-#[derive(Clone, Copy)]
-pub enum Extent {
-    Buffer,
-    Section { end: usize },
-}
-
-// A body read that was accepted, and ends at a cursor.
-pub fn read_to(c: Cursor) -> Parsed
-    ensures { result ≡ parsed_of (Place.At c) }
-{
-    let end = c.pos;
-    let reach = c.reach;
-    Parsed::Read { end, reach }
-}
-
 // 1: a buffer, or a label to write, that is too long.
-pub fn length_checked(p: Place, length: usize) -> Place
-    ensures { result ≡ length_checked p length }
+#[tactic(auto, unfolding(crate::specs::Checks::length_checked, core_read::specs::Taken::stop_if))]
+pub fn length_checked(length: usize) -> Result<(), Refusal>
+    ensures { Lets result (λ p. length_checked p length) }
 {
-    cursor::stop_if(p, 16_777_216 < length, Refusal::TooLong { length })
+    if 16_777_216 < length {
+        return Err(Refusal::TooLong { length });
+    }
+    Ok(())
 }
 
 // 2 of a body call.
-pub fn body_checked(p: Place, length: usize, place: usize) -> Place
-    ensures { result ≡ body_checked p length place }
+#[tactic(auto, unfolding(crate::specs::Checks::body_checked, core_read::specs::Taken::stop_if))]
+pub fn body_checked(length: usize, place: usize) -> Result<(), Refusal>
+    ensures { Lets result (λ p. body_checked p length place) }
 {
-    let p = cursor::stop_if(p, place < 8, Refusal::BadPlace { place });
-    cursor::stop_if(p, length < place, Refusal::BadPlace { place })
+    if place < 8 || length < place {
+        return Err(Refusal::BadPlace { place });
+    }
+    Ok(())
 }
 
 // 2 of a section call.
-pub fn section_checked(p: Place, length: usize, place: usize) -> Place
-    ensures { result ≡ section_checked p length place }
+#[tactic(auto, unfolding(crate::specs::Checks::section_checked, core_read::specs::Taken::stop_if))]
+pub fn section_checked(length: usize, place: usize) -> Result<(), Refusal>
+    ensures { Lets result (λ p. section_checked p length place) }
 {
-    let p = cursor::stop_if(p, length < place, Refusal::BadPlace { place });
-    cursor::stop_if(p, 0 < place % 4, Refusal::BadPlace { place })
+    if length < place || 0 < place % 4 {
+        return Err(Refusal::BadPlace { place });
+    }
+    Ok(())
 }
 
 // 1 and 2 of a body call.
+#[tactic(auto, unfolding(crate::specs::Checks::body_start, crate::specs::Checks::body_checked, core_read::specs::Taken::stop_if))]
 pub fn body_start(length: usize, place: usize) -> Place
     ensures { result ≡ body_start length place }
 {
-    let p = length_checked(Place::At(Cursor::start(place)), length);
-    body_checked(p, length, place)
+    length_checked(length)?;
+    body_checked(length, place)?;
+    Ok(Cursor::start(place))
 }
 
 // 1 and 2 of a section call.
+#[tactic(auto, unfolding(crate::specs::Checks::section_start, crate::specs::Checks::section_checked, core_read::specs::Taken::stop_if))]
 pub fn section_start(length: usize, place: usize) -> Place
     ensures { result ≡ section_start length place }
 {
-    let p = length_checked(Place::At(Cursor::start(place)), length);
-    section_checked(p, length, place)
+    length_checked(length)?;
+    section_checked(length, place)?;
+    Ok(Cursor::start(place))
 }
 
 // 3: a lent list that is short.
@@ -83,51 +68,46 @@ pub fn list_checked(p: Place, list: usize, need: usize, length: usize) -> Place
 }
 
 // 11: a list to write that is not width times n numbers, n at most 255.
-pub fn count_checked(p: Place, list: usize, width: usize, length: usize) -> Place
+#[tactic(auto, unfolding(crate::specs::Checks::count_checked, crate::specs::Checks::count_bad, core_read::specs::Taken::stop_if))]
+pub fn count_checked(list: usize, width: usize, length: usize) -> Result<(), Refusal>
     requires { (0 < width) × (width ≤ 8) }
-    ensures { result ≡ count_checked p list width length }
+    ensures { Lets result (λ p. count_checked p list width length) }
 {
-    cursor::stop_if(
-        p,
-        (0 < length % width) | (255 * width < length),
-        Refusal::ListLength { list, length },
-    )
+    if 0 < length % width || 255 * width < length {
+        return Err(Refusal::ListLength { list, length });
+    }
+    Ok(())
 }
 
 // 16: the end of width bytes at a place, where it passes the output.
-pub fn end_checked(p: Place, place: usize, width: usize, length: usize) -> Place
-    requires { (c : Cursor) → p ≡ Place.At c → place + width < 2 ^ 64 }
-    ensures { result ≡ end_checked p (place + width) length }
+#[tactic(auto, unfolding(crate::specs::Checks::end_checked, core_read::specs::Taken::stop_if))]
+pub fn end_checked(place: usize, width: usize, length: usize) -> Result<(), Refusal>
+    requires { place + width < 2 ^ 64 }
+    ensures { Lets result (λ p. end_checked p (place + width) length) }
 {
-    match p {
-        Place::At(c) => {
-            let end = place + width;
-            cursor::stop_if(
-                Place::At(c),
-                length < end,
-                Refusal::OutputEnd { end, length },
-            )
-        }
-        Place::Refused(why) => Place::Refused(why),
+    let end = place + width;
+    if length < end {
+        return Err(Refusal::OutputEnd { end, length });
     }
+    Ok(())
 }
 
 // 19: a body that looked past its section.
-pub fn reach_checked(p: Place, extent: Extent) -> Place
+pub fn reach_checked(p: Place, extent: Option<usize>) -> Place
     ensures { result ≡ reach_checked p extent }
 {
     match p {
-        Place::At(c) => match extent {
-            Extent::Section { end } => cursor::stop_if(
-                Place::At(c),
+        Ok(c) => match extent {
+            Some(end) => cursor::stop_if(
+                Ok(c),
                 end < c.reach,
                 Refusal::PastSection {
                     reach: c.reach,
                     end,
                 },
             ),
-            Extent::Buffer => Place::At(c),
+            None => Ok(c),
         },
-        Place::Refused(why) => Place::Refused(why),
+        Err(why) => Err(why),
     }
 }

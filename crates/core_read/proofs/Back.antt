@@ -10,15 +10,15 @@ use lib.Dec.{eqb, lit≤}
 use borrow.Author.Tests.{le-leb, lt-ltb}
 use native.Mathlib.Nat.{add_assoc, mul-suc, mul-zero}
 use Rattle.core_read.specs.Bytes.{spelled, bytes_of, bytes_of_all, part, number_at, fixed}
-use Rattle.core_read.specs.Taken.{Taken, advanced, number_taken, string_taken, label_taken, up_to_nul, has_zero, string24_of, string8_of, string24_taken, string8_taken}
-use Rattle.core_read.specs.declared.text.String24Taken.{String24Taken}
-use Rattle.core_read.specs.declared.text.String8Taken.{String8Taken}
+use Rattle.core_read.specs.Taken.{advanced, number_taken, string_taken, label_taken, up_to_nul, has_zero, string_of, fixed_string_taken}
+use Rattle.core_read.specs.declared.cursor.Taken.{Taken}
 use Rattle.core_read.specs.Lists.{numbers_taken}
 use Rattle.core_read.specs.declared.cursor.Cursor.{Cursor}
 use Rattle.core_read.specs.declared.cursor.ByteOrder.{ByteOrder}
-use Rattle.core_read.specs.declared.cursor.Place.TheVariants.{At}
 use Rattle.core_read.proofs.Numbers.{length_bytes, spelled_bytes}
 use Rattle.core_read.proofs.Cursors.{pos_advanced, advanced_zero, advanced_more}
+use Rattle.std.specs.Prelude.{Ok}
+use Rattle.core_read.specs.declared.text.FixedString.{FixedString}
 
 -- s holds xs at p
 pub record Holds (s : List ℕ) (p : ℕ) (xs : List ℕ) : Type 0 where
@@ -52,7 +52,7 @@ holds_part {s} {p} xs w h a = rw (a.whole, drop_at a.before (xs ++ a.after) p a.
 -- ---- numbers
 
 pub number_back : {s : List ℕ} (c : Cursor) (order : ByteOrder) (w v : ℕ) → v < 256 ^ w → Holds s c.pos (bytes_of order w v)
-    → ◌≡◌ {A = Taken ℕ} (number_taken order w s (At c)) (record { value = v; then = At (advanced c w) })
+    → ◌≡◌ {A = Taken ℕ} (number_taken order w s (Ok c)) (record { value = v; then = Ok (advanced c w) })
 unfolding number_taken number_at
 number_back {s} c order w v h a =
     let l = length_bytes order w v in
@@ -78,7 +78,7 @@ length_all order w [] = sym (mul-zero w)
 length_all order w (v ∷ l) = simp (length-append, length_bytes, length_all order w l) (omega (arith, mul-suc w (length l)))
 
 pub numbers_back : {s : List ℕ} (c : Cursor) (order : ByteOrder) (w : ℕ) (l : List ℕ) → Fit w l → Holds s c.pos (bytes_of_all order w l)
-    → ◌≡◌ {A = Taken (List ℕ)} (numbers_taken order w (length l) s (At c)) (record { value = l; then = At (advanced c (w * length l)) })
+    → ◌≡◌ {A = Taken (List ℕ)} (numbers_taken order w (length l) s (Ok c)) (record { value = l; then = Ok (advanced c (w * length l)) })
 unfolding numbers_taken bytes_of_all Fit
 numbers_back c order w [] f a = rw (mul-zero, advanced_zero)
 numbers_back {s} c order w (v ∷ l) f a =
@@ -108,7 +108,7 @@ unfolding fixed
 upto_fixed w l z = upto_back l (w - length l) z
 
 pub string_back : {s : List ℕ} (c : Cursor) (w : ℕ) (l : List ℕ) → 0 < w → length l ≤ w → has_zero l ≡ false → Holds s c.pos (fixed w l)
-    → ◌≡◌ {A = Taken (List ℕ)} (string_taken w s (At c)) (record { value = l; then = At (advanced c w) })
+    → ◌≡◌ {A = Taken (List ℕ)} (string_taken w s (Ok c)) (record { value = l; then = Ok (advanced c w) })
 unfolding string_taken
 string_back {s} c w l n h z a =
     let k = length_fixed w l h in
@@ -123,7 +123,7 @@ upto_nul [] t h = refl
 upto_nul (b ∷ l) t h = upto_step (eqb b 0) b l (up_to_nul (l ++ (0 ∷ t))) h (upto_nul l t)
 
 pub label_back : {s : List ℕ} (c : Cursor) (l : List ℕ) → has_zero l ≡ false → Holds s c.pos (l ++ (0 ∷ []))
-    → ◌≡◌ {A = Taken (List ℕ)} (label_taken s (At c)) (record { value = l; then = At (advanced c (length l + 1)) })
+    → ◌≡◌ {A = Taken (List ℕ)} (label_taken s (Ok c)) (record { value = l; then = Ok (advanced c (length l + 1)) })
 unfolding label_taken
 label_back {s} c l z a =
     let d : drop c.pos s ≡ l ++ (0 ∷ a.after) = rw (a.whole, drop_at a.before ((l ++ (0 ∷ [])) ++ a.after) c.pos a.place) (append_assoc l (0 ∷ []) a.after) in
@@ -143,22 +143,14 @@ module _ {s : List ℕ} (c : Cursor) where
   there k xs a = rw pos_advanced a
 
   pub number_at_lem : (order : ByteOrder) (k w v : ℕ) → v < 256 ^ w → Holds s (c.pos + k) (bytes_of order w v)
-      → ◌≡◌ {A = Taken ℕ} (number_taken order w s (At (advanced c k))) (record { value = v; then = At (advanced c (k + w)) })
+      → ◌≡◌ {A = Taken ℕ} (number_taken order w s (Ok (advanced c k))) (record { value = v; then = Ok (advanced c (k + w)) })
   number_at_lem order k w v h a = number_back (advanced c k) order w v h (there k _ a) ∙ rw advanced_more
 
-  pub string24_at : (k : ℕ) (l : List ℕ) → length l ≤ 24 → has_zero l ≡ false → Holds s (c.pos + k) (fixed 24 l)
-      → ◌≡◌ {A = String24Taken} (string24_taken s (At (advanced c k))) (record { value = string24_of l; then = At (advanced c (k + 24)) })
-  unfolding string24_taken
-  string24_at k l h z a = rw (string_back (advanced c k) 24 l (lit≤ tt) h z (there k _ a), advanced_more)
-
-  pub string8_at : (k : ℕ) (l : List ℕ) → length l ≤ 8 → has_zero l ≡ false → Holds s (c.pos + k) (fixed 8 l)
-      → ◌≡◌ {A = String8Taken} (string8_taken s (At (advanced c k))) (record { value = string8_of l; then = At (advanced c (k + 8)) })
-  unfolding string8_taken
-  string8_at k l h z a = rw (string_back (advanced c k) 8 l (lit≤ tt) h z (there k _ a), advanced_more)
+  pub string_at : (n k : ℕ) (l : List ℕ) → 0 < n → length l ≤ n → has_zero l ≡ false → Holds s (c.pos + k) (fixed n l)
+      → ◌≡◌ {A = Taken (FixedString n)} (fixed_string_taken n s (Ok (advanced c k))) (record { value = string_of n l; then = Ok (advanced c (k + n)) })
+  unfolding fixed_string_taken
+  string_at n k l p h z a = rw (string_back (advanced c k) n l p h z (there k _ a), advanced_more)
 
 -- the counted bytes of a string that holds given ones
-pub string24_text : (l : List ℕ) → take (string24_of l).count (string24_of l).bytes ≡ l
-string24_text l = take-append_seam l _
-
-pub string8_text : (l : List ℕ) → take (string8_of l).count (string8_of l).bytes ≡ l
-string8_text l = take-append_seam l _
+pub string_text : (n : ℕ) (l : List ℕ) → take (string_of n l).count (string_of n l).bytes ≡ l
+string_text n l = take-append_seam l _

@@ -1,8 +1,10 @@
 pub mod Table
 pub mod Numbers
+pub mod Library
 pub mod TwosComplement
 pub mod Cursors
 pub mod Runs
+pub mod Nul
 pub mod Strings
 pub mod Lists
 pub mod Back

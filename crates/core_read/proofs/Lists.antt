@@ -8,30 +8,30 @@ use native.Mathlib.Omega.{arith}
 use lib.ListN.{length, drop, get_or, set, length-set}
 use lib.Seq.{set_at, drop-cons}
 use Rattle.core_read.specs.Bytes.{number_at}
-use Rattle.core_read.specs.Taken.{Taken, advanced, number_taken}
+use Rattle.core_read.specs.Taken.{advanced, number_taken, Place}
+use Rattle.core_read.specs.declared.cursor.Taken.{Taken}
 use Rattle.core_read.specs.Lists.{numbers_taken, numbers_at}
 use Rattle.core_read.specs.declared.error.Refusal.{Refusal}
 use Rattle.core_read.specs.declared.error.Refusal.TheVariants.{UnexpectedEof}
 use Rattle.core_read.specs.declared.cursor.ByteOrder.{ByteOrder}
 use Rattle.core_read.specs.declared.cursor.Cursor.{Cursor}
-use Rattle.core_read.specs.declared.cursor.Place.{Place}
-use Rattle.core_read.specs.declared.cursor.Place.TheVariants.{At, Refused}
 use Rattle.core_read.proofs.Cursors.{pos_advanced, advanced_zero, advanced_more}
 use Rattle.core_read.proofs.Runs.{got, short}
+use Rattle.std.specs.Prelude.{Err, Ok}
 
 module _ (order : ByteOrder) (w : ℕ) (s : List ℕ) where
   -- one number, where its bytes are there
   pub number_here : (c : Cursor) → c.pos + w ≤ length s
-      → ◌≡◌ {A = Taken ℕ} (number_taken order w s (At c)) (record { value = number_at order w s c.pos; then = At (advanced c w) })
-  number_here c h = sym (got order w s (At c) c refl (number_at order w s c.pos) refl (advanced c w) refl h)
+      → ◌≡◌ {A = Taken ℕ} (number_taken order w s (Ok c)) (record { value = number_at order w s c.pos; then = Ok (advanced c w) })
+  number_here c h = sym (got order w s (Ok c) c refl (number_at order w s c.pos) refl (advanced c w) refl h)
 
   number_short : (c : Cursor) → length s < c.pos + w
-      → ◌≡◌ {A = Taken ℕ} (number_taken order w s (At c)) (record { value = 0; then = Refused (UnexpectedEof c.pos w) })
-  number_short c h = sym (short order w s (At c) c refl h)
+      → ◌≡◌ {A = Taken ℕ} (number_taken order w s (Ok c)) (record { value = 0; then = Err (UnexpectedEof c.pos w) })
+  number_short c h = sym (short order w s (Ok c) c refl h)
 
   -- all n numbers are there
   pub numbers_here : (n : ℕ) (c : Cursor) → c.pos + w * n ≤ length s
-      → ◌≡◌ {A = Taken (List ℕ)} (numbers_taken order w n s (At c)) (record { value = numbers_at order w n s c.pos; then = At (advanced c (w * n)) })
+      → ◌≡◌ {A = Taken (List ℕ)} (numbers_taken order w n s (Ok c)) (record { value = numbers_at order w n s c.pos; then = Ok (advanced c (w * n)) })
   unfolding numbers_taken numbers_at
   numbers_here zero c h = rw (mul-zero, advanced_zero)
   numbers_here (suc n) c h =
@@ -40,14 +40,14 @@ module _ (order : ByteOrder) (w : ℕ) (s : List ℕ) where
       rw (number_here c (omega (arith, m)), numbers_here n (advanced c w) k, advanced_more, pos_advanced, m)
 
   -- a refused run stays so
-  pub numbers_stay : (n : ℕ) (why : Refusal) → (numbers_taken order w n s (Refused why)).then ≡ Refused why
+  pub numbers_stay : (n : ℕ) (why : Refusal) → (numbers_taken order w n s (Err why)).then ≡ Err why
   unfolding numbers_taken number_taken
   numbers_stay zero why = refl
   numbers_stay (suc n) why = numbers_stay n why
 
   -- only k of them are there: the next one is refused
   pub numbers_short : (k n : ℕ) (c : Cursor) → k < n → c.pos + w * k ≤ length s → length s < c.pos + w * k + w
-      → (numbers_taken order w n s (At c)).then ≡ Refused (UnexpectedEof (c.pos + w * k) w)
+      → (numbers_taken order w n s (Ok c)).then ≡ Err (UnexpectedEof (c.pos + w * k) w)
   unfolding numbers_taken
   numbers_short k zero c l h g = absurd (omega arith)
   numbers_short zero (suc n) c l h g =
@@ -59,7 +59,7 @@ module _ (order : ByteOrder) (w : ℕ) (s : List ℕ) where
       rw (numbers_taken, number_here c (omega (arith, m)), ← a) (numbers_short k n (advanced c w) (omega arith) (omega (arith, a)) (omega (arith, a)))
 
   -- none is there
-  numbers_beyond : (n : ℕ) (c : Cursor) → 0 < n → length s < c.pos + w → (numbers_taken order w n s (At c)).then ≡ Refused (UnexpectedEof c.pos w)
+  numbers_beyond : (n : ℕ) (c : Cursor) → 0 < n → length s < c.pos + w → (numbers_taken order w n s (Ok c)).then ≡ Err (UnexpectedEof c.pos w)
   unfolding numbers_taken
   numbers_beyond zero c l g = absurd (omega arith)
   numbers_beyond (suc n) c l g = rw (numbers_taken, number_short c g) (numbers_stay n (UnexpectedEof c.pos w))
@@ -67,23 +67,23 @@ module _ (order : ByteOrder) (w : ℕ) (s : List ℕ) where
 -- ---- where a run stands after n numbers, as the code finds it
 
 module _ (order : ByteOrder) (w n : ℕ) (s : List ℕ) (p : Place) where
-  pub measured : (c d : Cursor) → p ≡ At c → d ≡ advanced c (w * n) → c.pos + w * n ≤ length s → At d ≡ (numbers_taken order w n s p).then
+  pub measured : (c d : Cursor) → p ≡ Ok c → d ≡ advanced c (w * n) → c.pos + w * n ≤ length s → Ok d ≡ (numbers_taken order w n s p).then
   measured c d here e h = rw (here, numbers_here order w s n c h, e)
 
-  pub measured_none : (c : Cursor) → p ≡ At c → n ≡ 0 → At c ≡ (numbers_taken order w n s p).then
+  pub measured_none : (c : Cursor) → p ≡ Ok c → n ≡ 0 → Ok c ≡ (numbers_taken order w n s p).then
   unfolding numbers_taken
   measured_none c here z = rw (here, z)
 
-  pub measured_short : (c : Cursor) (k a : ℕ) → p ≡ At c → k < n → a ≡ c.pos + w * k → a ≤ length s → length s < a + w
-      → Refused (UnexpectedEof a w) ≡ (numbers_taken order w n s p).then
+  pub measured_short : (c : Cursor) (k a : ℕ) → p ≡ Ok c → k < n → a ≡ c.pos + w * k → a ≤ length s → length s < a + w
+      → Err (UnexpectedEof a w) ≡ (numbers_taken order w n s p).then
   measured_short c k a here l e h g =
       rw (here, e) (sym (numbers_short order w s k n c l (omega (arith, e)) (omega (arith, e))))
 
-  pub measured_beyond : (c : Cursor) (a : ℕ) → p ≡ At c → 0 < n → a ≡ c.pos → length s < a + w
-      → Refused (UnexpectedEof a w) ≡ (numbers_taken order w n s p).then
+  pub measured_beyond : (c : Cursor) (a : ℕ) → p ≡ Ok c → 0 < n → a ≡ c.pos → length s < a + w
+      → Err (UnexpectedEof a w) ≡ (numbers_taken order w n s p).then
   measured_beyond c a here l e g = rw (here, e) (sym (numbers_beyond order w s n c l (omega (arith, e))))
 
-  pub measured_stays : (why : Refusal) → p ≡ Refused why → Refused why ≡ (numbers_taken order w n s p).then
+  pub measured_stays : (why : Refusal) → p ≡ Err why → Err why ≡ (numbers_taken order w n s p).then
   measured_stays why here = rw (here, numbers_stay order w s n why)
 
 -- ---- the numbers at the front of a list, and one more

@@ -1,8 +1,8 @@
 -- Numbers as bytes, for every width and every order together. A new order adds a clause to the three laws of `ordered`, and to no other.
 use mathlib.Core.Path.{◌≡◌, refl, sym, ap, ◌∙◌}
 use mathlib.Core.List.{List, [], ◌∷◌, reverse-reverse}
-use Prim.Native.Nat.{ℕ, zero, suc, ◌+◌, ◌/◌, ◌%◌, ◌^◌, ◌≤◌, ◌<◌}
-use native.Mathlib.Nat.{add_assoc, mod-add-div}
+use Prim.Native.Nat.{ℕ, zero, suc, ◌+◌, ◌/◌, ◌%◌, ◌^◌, ◌<◌}
+use native.Mathlib.Nat.{mod-add-div}
 use native.Mathlib.Numerals.{add-one}
 use native.Mathlib.Omega.{arith}
 use lib.ListN.{length, get_or, length-reverse}
@@ -68,21 +68,3 @@ part_none s at = refl
 pub one : (order : ByteOrder) (s : List ℕ) (at : ℕ) → at < length s → number_at order 1 s at ≡ get_or s at 0
 unfolding number_at
 one order s at h = rw (part_step 0 s at h, part_none s (at + 1)) (spelled_one order (get_or s at 0))
-
-pub two : (order : ByteOrder) (s : List ℕ) (at : ℕ) → at + 2 ≤ length s
-    → (v : ℕ) → v ≡ little (ordered order (get_or s at 0 ∷ get_or s (at + 1) 0 ∷ [])) → v ≡ number_at order 2 s at
-unfolding number_at spelled
-two order s at h v e =
-    let h0 : at < length s = omega arith in
-    let h1 : at + 1 < length s = omega arith in
-    e ∙ simp (part_step 1 s at h0, part_step 0 s (at + 1) h1, part_none)
-
-pub four : (order : ByteOrder) (s : List ℕ) (at : ℕ) → at + 4 ≤ length s
-    → (v : ℕ) → v ≡ little (ordered order (get_or s at 0 ∷ get_or s (at + 1) 0 ∷ get_or s (at + 2) 0 ∷ get_or s (at + 3) 0 ∷ [])) → v ≡ number_at order 4 s at
-unfolding number_at spelled
-four order s at h v e =
-    let h0 : at < length s = omega arith in
-    let h1 : at + 1 < length s = omega arith in
-    let h2 : at + 2 < length s = omega arith in
-    let h3 : at + 3 < length s = omega arith in
-    e ∙ simp (part_step 3 s at h0, part_step 2 s (at + 1) h1, part_step 1 s (at + 2) h2, part_step 0 s (at + 3) h3, add_assoc, part_none)

@@ -2,3 +2,4 @@ pub mod Refusals
 pub mod Bytes
 pub mod Taken
 pub mod Lists
+pub mod Laws

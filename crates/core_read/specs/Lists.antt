@@ -1,9 +1,9 @@
 -- Runs of numbers of one width.
 use Rattle.std.specs.Prelude.{ℕ, zero, suc, ◌+◌, List, [], ◌∷◌}
 use Rattle.core_read.specs.Bytes.{number_at}
-use Rattle.core_read.specs.Taken.{Taken, number_taken}
+use Rattle.core_read.specs.Taken.{number_taken, Place}
+use Rattle.core_read.specs.declared.cursor.Taken.{Taken}
 use Rattle.core_read.specs.declared.cursor.ByteOrder.{ByteOrder}
-use Rattle.core_read.specs.declared.cursor.Place.{Place}
 
 -- n numbers of a width, one read after the other
 unfoldable pub numbers_taken : ByteOrder → ℕ → ℕ → List ℕ → Place → Taken (List ℕ)

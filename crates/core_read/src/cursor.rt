@@ -4,6 +4,7 @@ ghost use Rattle.core_read.specs.Bytes.{little, number_at};
 ghost use Rattle.core_read.specs.Taken.{start, advanced, moved, stop_if, sought, u8_taken, u16_taken, u32_taken, i16_taken};
 
 use crate::error::Refusal;
+use crate::number::Number;
 use crate::signed;
 
 // In which order the bytes of a number stand: the lowest first, or the highest.
@@ -21,33 +22,12 @@ pub struct Cursor {
 }
 
 // Where a run of steps stands: at a cursor, or refused. A refused run does nothing more.
-#[derive(Clone, Copy)]
-pub enum Place {
-    At(Cursor),
-    Refused(Refusal),
-}
+pub type Place = Result<Cursor, Refusal>;
 
+// What a step read, and where the run stands then.
 #[derive(Clone, Copy)]
-pub struct U8Taken {
-    pub value: u8,
-    pub then: Place,
-}
-
-#[derive(Clone, Copy)]
-pub struct U16Taken {
-    pub value: u16,
-    pub then: Place,
-}
-
-#[derive(Clone, Copy)]
-pub struct U32Taken {
-    pub value: u32,
-    pub then: Place,
-}
-
-#[derive(Clone, Copy)]
-pub struct I16Taken {
-    pub value: i16,
+pub struct Taken<T> {
+    pub value: T,
     pub then: Place,
 }
 
@@ -96,14 +76,8 @@ pub fn stop_if(p: Place, bad: bool, why: Refusal) -> Place
     ensures { result ≡ stop_if p bad why }
 {
     match p {
-        Place::At(c) => {
-            if bad {
-                Place::Refused(why)
-            } else {
-                Place::At(c)
-            }
-        }
-        Place::Refused(first) => Place::Refused(first),
+        Ok(c) => { if bad { Err(why) } else { Ok(c) } }
+        Err(first) => Err(first),
     }
 }
 
@@ -112,45 +86,36 @@ pub fn seek(data: &[u8], p: Place, to: usize) -> Place
     ensures { result ≡ sought «data».now p to }
 {
     match p {
-        Place::At(c) => {
+        Ok(c) => {
             if to <= data.len() {
-                Place::At(c.moved(to))
+                Ok(c.moved(to))
             } else {
-                Place::Refused(Refusal::UnexpectedEof {
+                Err(Refusal::UnexpectedEof {
                     offset: data.len(),
                     requested: to - data.len(),
                 })
             }
         }
-        Place::Refused(first) => Place::Refused(first),
+        Err(first) => Err(first),
     }
 }
 
 // ---- numbers
 
-// The number that two bytes spell, the lowest first.
-fn join2(b0: u8, b1: u8) -> u16
-    ensures { result ≡ little (b0 ∷ b1 ∷ []) }
+// The number at a place.
+pub fn number_at<T: Number>(order: ByteOrder, data: &[u8], at: usize) -> T
+    requires { at + T.WIDTH ≤ length «data».now }
+    ensures { result ≡ T.of_bits (number_at order T.WIDTH «data».now at) }
 {
-    (b0 as u16) + 256 * (b1 as u16)
+    T::of_bytes(order, &data[at..at + T::WIDTH])
 }
 
-// The number that four bytes spell, the lowest first.
-fn join4(b0: u8, b1: u8, b2: u8, b3: u8) -> u32
-    ensures { result ≡ little (b0 ∷ b1 ∷ b2 ∷ b3 ∷ []) }
-{
-    (b0 as u32) + 256 * (b1 as u32) + 65536 * (b2 as u32) + 16777216 * (b3 as u32)
-}
-
-// The number of 2 bytes at a place.
+// The number of 2 bytes at a place. Kept, with u32_at: the name shows the width, which number_at leaves to the result's type.
 pub fn u16_at(order: ByteOrder, data: &[u8], at: usize) -> u16
     requires { at + 2 ≤ length «data».now }
     ensures { result ≡ number_at order 2 «data».now at }
 {
-    match order {
-        ByteOrder::Little => join2(data[at], data[at + 1]),
-        ByteOrder::Big => join2(data[at + 1], data[at]),
-    }
+    number_at(order, data, at)
 }
 
 // The number of 4 bytes at a place.
@@ -158,104 +123,101 @@ pub fn u32_at(order: ByteOrder, data: &[u8], at: usize) -> u32
     requires { at + 4 ≤ length «data».now }
     ensures { result ≡ number_at order 4 «data».now at }
 {
-    match order {
-        ByteOrder::Little => join4(data[at], data[at + 1], data[at + 2], data[at + 3]),
-        ByteOrder::Big => join4(data[at + 3], data[at + 2], data[at + 1], data[at]),
-    }
+    number_at(order, data, at)
 }
 
-pub fn take_u8(order: ByteOrder, data: &[u8], p: Place) -> U8Taken
+pub fn take_u8(order: ByteOrder, data: &[u8], p: Place) -> Taken<u8>
     ensures { result ≡ u8_taken order «data».now p }
 {
     match p {
-        Place::At(c) => {
+        Ok(c) => {
             let at = c.pos;
             if at < data.len() {
-                U8Taken {
+                Taken {
                     value: data[at],
-                    then: Place::At(c.advanced(1)),
+                    then: Ok(c.advanced(1)),
                 }
             } else {
-                U8Taken {
+                Taken {
                     value: 0,
-                    then: Place::Refused(Refusal::UnexpectedEof {
+                    then: Err(Refusal::UnexpectedEof {
                         offset: at,
                         requested: 1,
                     }),
                 }
             }
         }
-        Place::Refused(why) => U8Taken {
+        Err(why) => Taken {
             value: 0,
-            then: Place::Refused(why),
+            then: Err(why),
         },
     }
 }
 
-pub fn take_u16(order: ByteOrder, data: &[u8], p: Place) -> U16Taken
+pub fn take_u16(order: ByteOrder, data: &[u8], p: Place) -> Taken<u16>
     ensures { result ≡ u16_taken order «data».now p }
 {
     match p {
-        Place::At(c) => {
+        Ok(c) => {
             let at = c.pos;
             if at < data.len() {
                 if 2 <= data.len() - at {
-                    return U16Taken {
+                    return Taken {
                         value: u16_at(order, data, at),
-                        then: Place::At(c.advanced(2)),
+                        then: Ok(c.advanced(2)),
                     };
                 }
             }
-            U16Taken {
+            Taken {
                 value: 0,
-                then: Place::Refused(Refusal::UnexpectedEof {
+                then: Err(Refusal::UnexpectedEof {
                     offset: at,
                     requested: 2,
                 }),
             }
         }
-        Place::Refused(why) => U16Taken {
+        Err(why) => Taken {
             value: 0,
-            then: Place::Refused(why),
+            then: Err(why),
         },
     }
 }
 
-pub fn take_u32(order: ByteOrder, data: &[u8], p: Place) -> U32Taken
+pub fn take_u32(order: ByteOrder, data: &[u8], p: Place) -> Taken<u32>
     ensures { result ≡ u32_taken order «data».now p }
 {
     match p {
-        Place::At(c) => {
+        Ok(c) => {
             let at = c.pos;
             if at < data.len() {
                 if 4 <= data.len() - at {
-                    return U32Taken {
+                    return Taken {
                         value: u32_at(order, data, at),
-                        then: Place::At(c.advanced(4)),
+                        then: Ok(c.advanced(4)),
                     };
                 }
             }
-            U32Taken {
+            Taken {
                 value: 0,
-                then: Place::Refused(Refusal::UnexpectedEof {
+                then: Err(Refusal::UnexpectedEof {
                     offset: at,
                     requested: 4,
                 }),
             }
         }
-        Place::Refused(why) => U32Taken {
+        Err(why) => Taken {
             value: 0,
-            then: Place::Refused(why),
+            then: Err(why),
         },
     }
 }
 
-pub fn take_i16(order: ByteOrder, data: &[u8], p: Place) -> I16Taken
+pub fn take_i16(order: ByteOrder, data: &[u8], p: Place) -> Taken<i16>
     ensures { result ≡ i16_taken order «data».now p }
 {
     let bits = take_u16(order, data, p);
     let then = bits.then;
-    I16Taken {
+    Taken {
         value: signed::signed_of(bits.value),
         then,
     }

@@ -4,5 +4,6 @@
 pub mod cursor;
 pub mod error;
 pub mod list;
+pub mod number;
 pub mod signed;
 pub mod text;

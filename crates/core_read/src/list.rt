@@ -13,27 +13,27 @@ pub fn measure_u16s(order: ByteOrder, data: &[u8], p: Place, n: usize) -> Place
     ensures { result ≡ (numbers_taken order 2 n «data».now p).then }
 {
     match p {
-        Place::At(c) => {
+        Ok(c) => {
             let at = c.pos;
             if n == 0 {
-                return Place::At(c);
+                return Ok(c);
             }
             if data.len() <= at {
-                return Place::Refused(Refusal::UnexpectedEof {
+                return Err(Refusal::UnexpectedEof {
                     offset: at,
                     requested: 2,
                 });
             }
             let whole = (data.len() - at) / 2;
             if n <= whole {
-                return Place::At(c.advanced(2 * n));
+                return Ok(c.advanced(2 * n));
             }
-            Place::Refused(Refusal::UnexpectedEof {
+            Err(Refusal::UnexpectedEof {
                 offset: at + 2 * whole,
                 requested: 2,
             })
         }
-        Place::Refused(why) => Place::Refused(why),
+        Err(why) => Err(why),
     }
 }
 
@@ -41,27 +41,27 @@ pub fn measure_u32s(order: ByteOrder, data: &[u8], p: Place, n: usize) -> Place
     ensures { result ≡ (numbers_taken order 4 n «data».now p).then }
 {
     match p {
-        Place::At(c) => {
+        Ok(c) => {
             let at = c.pos;
             if n == 0 {
-                return Place::At(c);
+                return Ok(c);
             }
             if data.len() <= at {
-                return Place::Refused(Refusal::UnexpectedEof {
+                return Err(Refusal::UnexpectedEof {
                     offset: at,
                     requested: 4,
                 });
             }
             let whole = (data.len() - at) / 4;
             if n <= whole {
-                return Place::At(c.advanced(4 * n));
+                return Ok(c.advanced(4 * n));
             }
-            Place::Refused(Refusal::UnexpectedEof {
+            Err(Refusal::UnexpectedEof {
                 offset: at + 4 * whole,
                 requested: 4,
             })
         }
-        Place::Refused(why) => Place::Refused(why),
+        Err(why) => Err(why),
     }
 }
 
@@ -71,9 +71,7 @@ pub fn fill_u16s(order: ByteOrder, data: &[u8], at: usize, n: usize, out: &mut [
     requires { Room «data».now at (2 * n) × (n ≤ length out.old) }
     ensures { out.new ≡ numbers_at order 2 n «data».now at ++ drop n out.old }
 {
-    let mut i = 0;
-    while i < n {
-        out[i] = cursor::u16_at(order, data, at + 2 * i);
-        i += 1;
+    for (i, x) in out[..n].iter_mut().enumerate() {
+        *x = cursor::number_at(order, data, at + 2 * i);
     }
 }

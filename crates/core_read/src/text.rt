@@ -1,55 +1,23 @@
 // Fixed strings, and strings that end at a NUL.
-ghost use Rattle.std.specs.Prelude.{◌≡◌, ◌+◌, ◌≤◌, min, length};
+ghost use Rattle.std.specs.Prelude.{◌≡◌, ◌==◌, ◌+◌, ◌≤◌, min, length, position};
 ghost use Rattle.core_read.specs.Bytes.{part, Room};
-ghost use Rattle.core_read.specs.Taken.{up_to_nul, has_zero, over, as_count, string_taken, string24_of, string8_of, string24_taken, string8_taken, label_taken};
+ghost use Rattle.core_read.specs.Taken.{up_to_nul, has_zero, over, as_count, string_taken, string_of, fixed_string_taken, label_taken};
 
-use crate::cursor::Place;
+use crate::cursor::{Place, Taken};
 use crate::error::Refusal;
 
-// A string of at most 24 bytes: its bytes with their count. What stands after them is no part of it.
+// A string of at most N bytes: its bytes with their count. What stands after them is no part of it.
 #[derive(Clone, Copy)]
-pub struct FixedString24 {
-    pub bytes: [u8; 24],
+pub struct FixedString<const N: usize> {
+    pub bytes: [u8; N],
     pub count: usize,
-}
-
-// A string of at most 8 bytes.
-#[derive(Clone, Copy)]
-pub struct FixedString8 {
-    pub bytes: [u8; 8],
-    pub count: usize,
-}
-
-#[derive(Clone, Copy)]
-pub struct CountTaken {
-    pub count: usize,
-    pub then: Place,
-}
-
-#[derive(Clone, Copy)]
-pub struct String24Taken {
-    pub value: FixedString24,
-    pub then: Place,
-}
-
-#[derive(Clone, Copy)]
-pub struct String8Taken {
-    pub value: FixedString8,
-    pub then: Place,
 }
 
 // A byte that is 0.
 pub fn has_zero(s: &[u8]) -> bool
     ensures { result ≡ has_zero s.now }
 {
-    let mut i = 0;
-    while i < s.len() {
-        if s[i] == 0 {
-            return true;
-        }
-        i += 1;
-    }
-    false
+    s.contains(&0)
 }
 
 // Puts the bytes of src before its first NUL at the front of out, and answers their count.
@@ -58,16 +26,9 @@ fn fill_string(src: &[u8], out: &mut [u8]) -> usize
     ensures value { result ≡ length (up_to_nul src.now) }
     ensures out_after { out.new ≡ over (up_to_nul src.now) out.old }
 {
-    let mut i = 0;
-    while i < src.len() {
-        let b = src[i];
-        if b == 0 {
-            return i;
-        }
-        out[i] = b;
-        i += 1;
-    }
-    i
+    let count = string_length(src);
+    out[..count].copy_from_slice(&src[..count]);
+    count
 }
 
 // The end of the at most width bytes from a place on.
@@ -83,125 +44,100 @@ fn end_of(length: usize, at: usize, width: usize) -> usize
 }
 
 // A fixed string as wide as out: its bytes before the first NUL go to the front of out.
-pub fn take_string(data: &[u8], p: Place, out: &mut [u8]) -> CountTaken
+pub fn take_string(data: &[u8], p: Place, out: &mut [u8]) -> Taken<usize>
     ensures value { result ≡ as_count (string_taken (length out.old) «data».now p) }
     ensures out_after { out.new ≡ over (string_taken (length out.old) «data».now p).value out.old }
 {
     match p {
-        Place::At(c) => {
+        Ok(c) => {
             let at = c.pos;
             if at < data.len() {
                 let end = end_of(data.len(), at, out.len());
                 let count = fill_string(&data[at..end], out);
-                CountTaken {
-                    count,
-                    then: Place::At(c.advanced(end - at)),
+                Taken {
+                    value: count,
+                    then: Ok(c.advanced(end - at)),
                 }
             } else {
-                CountTaken {
-                    count: 0,
-                    then: Place::Refused(Refusal::UnexpectedEof {
+                Taken {
+                    value: 0,
+                    then: Err(Refusal::UnexpectedEof {
                         offset: at,
                         requested: out.len(),
                     }),
                 }
             }
         }
-        Place::Refused(why) => CountTaken {
-            count: 0,
-            then: Place::Refused(why),
+        Err(why) => Taken {
+            value: 0,
+            then: Err(why),
         },
     }
 }
 
-pub fn take_string24(data: &[u8], p: Place) -> String24Taken
-    ensures { result ≡ string24_taken «data».now p }
+pub fn take_fixed_string<const N: usize>(data: &[u8], p: Place) -> Taken<FixedString<N>>
+    ensures { result ≡ fixed_string_taken N «data».now p }
 {
-    let mut bytes = [0u8; 24];
+    let mut bytes = [0u8; N];
     let taken = take_string(data, p, &mut bytes);
     let then = taken.then;
-    String24Taken {
-        value: FixedString24 {
+    Taken {
+        value: FixedString {
             bytes,
-            count: taken.count,
+            count: taken.value,
         },
         then,
     }
 }
 
-pub fn take_string8(data: &[u8], p: Place) -> String8Taken
-    ensures { result ≡ string8_taken «data».now p }
+// The fixed string of N bytes at a place.
+pub fn fixed_string_at<const N: usize>(data: &[u8], at: usize) -> FixedString<N>
+    requires { Room «data».now at N }
+    ensures { result ≡ string_of N (up_to_nul (part N «data».now at)) }
 {
-    let mut bytes = [0u8; 8];
-    let taken = take_string(data, p, &mut bytes);
-    let then = taken.then;
-    String8Taken {
-        value: FixedString8 {
-            bytes,
-            count: taken.count,
-        },
-        then,
-    }
+    let mut bytes = [0u8; N];
+    let count = fill_string(&data[at..at + N], &mut bytes);
+    FixedString { bytes, count }
 }
 
-// The fixed string of 24 bytes at a place.
-pub fn string24_at(data: &[u8], at: usize) -> FixedString24
-    requires { Room «data».now at 24 }
-    ensures { result ≡ string24_of (up_to_nul (part 24 «data».now at)) }
+// Where the first NUL stands.
+fn first_nul(src: &[u8]) -> Option<usize>
+    ensures { result ≡ position (λ b. b == 0) src.now }
 {
-    let mut bytes = [0u8; 24];
-    let count = fill_string(&data[at..at + 24], &mut bytes);
-    FixedString24 { bytes, count }
-}
-
-// The fixed string of 8 bytes at a place.
-pub fn string8_at(data: &[u8], at: usize) -> FixedString8
-    requires { Room «data».now at 8 }
-    ensures { result ≡ string8_of (up_to_nul (part 8 «data».now at)) }
-{
-    let mut bytes = [0u8; 8];
-    let count = fill_string(&data[at..at + 8], &mut bytes);
-    FixedString8 { bytes, count }
+    src.iter().position(|b| *b == 0)
 }
 
 // How many bytes stand before the first NUL.
 fn string_length(src: &[u8]) -> usize
     ensures { result ≡ length (up_to_nul src.now) }
 {
-    let mut i = 0;
-    while i < src.len() {
-        if src[i] == 0 {
-            return i;
-        }
-        i += 1;
-    }
-    i
+    first_nul(src).unwrap_or(src.len())
 }
 
 // A label's length, up to its NUL, which is read too.
-pub fn take_label(data: &[u8], p: Place) -> CountTaken
+pub fn take_label(data: &[u8], p: Place) -> Taken<usize>
     ensures { result ≡ as_count (label_taken «data».now p) }
 {
     match p {
-        Place::At(c) => {
+        Ok(c) => {
             let at = c.pos;
             if at < data.len() {
                 let count = string_length(&data[at..]);
                 if count < data.len() - at {
-                    return CountTaken {
-                        count,
-                        then: Place::At(c.advanced(count + 1)),
+                    return Taken {
+                        value: count,
+                        then: Ok(c.advanced(count + 1)),
                     };
                 }
             }
-            CountTaken {
-                count: 0,
-                then: Place::Refused(Refusal::NoNul { place: at }),
+            Taken {
+                value: 0,
+                then: Err(Refusal::NoNul { place: at }),
             }
         }
-        Place::Refused(why) => CountTaken {
-            count: 0,
-            then: Place::Refused(why),
+        Err(why) => Taken {
+            value: 0,
+            then: Err(why),
         },
     }
 }

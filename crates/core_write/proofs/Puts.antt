@@ -4,8 +4,9 @@ use Prim.Native.Nat.{ℕ, suc, ◌+◌, ◌-◌, ◌≤◌, ◌<◌}
 use native.Mathlib.Nat.{add-zero}
 use native.Mathlib.Omega.{arith}
 use mathlib.Core.List.{List, [], ◌∷◌, ◌++◌, append_assoc, append-nil}
-use lib.ListN.{length, take, drop, set, get_or, replicate, length-append, length-set, replicate-append-replicate}
-use lib.Seq.{take-suc, sets, sets-eq, take_at, drop_at, length-take-le, take-append_seam}
+use lib.ListN.{length, take, drop, set, get_or, replicate, length-append, length-set}
+use borrow.Rule.Slice.PartMut.{put_mid}
+use lib.Seq.{drop-drop, take-suc, sets, sets-eq, take_at, drop_at, length-take-le, take-append_seam}
 use native.Mathlib.Numerals.{add-one}
 use Rattle.core_read.specs.Bytes.{bytes_of, bytes_of_all, fixed, splice, Put}
 use Rattle.core_read.specs.declared.cursor.ByteOrder.{ByteOrder}
@@ -63,9 +64,6 @@ pub all_more : (order : ByteOrder) (w : ℕ) (s : List ℕ) (i : ℕ) → i < le
     → bytes_of_all order w (take (i + 1) s) ≡ bytes_of_all order w (take i s) ++ bytes_of order w (get_or s i 0)
 all_more order w s i h = rw (take_more s i h, all_append) (ap (λ (l : List ℕ). bytes_of_all order w (take i s) ++ l) (all_one order w (get_or s i 0)))
 
-pub replicate_more : (i : ℕ) → replicate {A = ℕ} (i + 1) 0 ≡ replicate i 0 ++ (0 ∷ [])
-replicate_more i = sym (replicate-append-replicate i 1 0)
-
 -- a name's bytes and the zeros after them
 pub put_fixed : {o o₁ o₂ : List ℕ} {p q r v w k : ℕ} {s : List ℕ} → v + k ≡ w → Put o p v s q o₁ → Put o₁ q k (replicate k 0) r o₂ → Put o p w (fixed w s) r o₂
 unfolding fixed
@@ -93,3 +91,11 @@ splice_read o p e h =
     ap (λ (l : List ℕ). take (length e) (drop p l)) (splice_cut o p e h ∙ append_assoc (take p o) e (drop (p + length e) o))
     ∙ ap (take (length e)) (drop_at (take p o) (e ++ drop (p + length e) o) p (length-take-le p o (omega arith)))
     ∙ take-append_seam e (drop (p + length e) o)
+
+-- a part of the output that holds the bytes now
+pub put_part : (o : List ℕ) (p w k r : ℕ) (e l : List ℕ) → p + w ≤ length o → r ≡ p + w → k ≡ w → length e ≡ w → l ≡ e → Put o p w e r (put_mid p k o l)
+put_part o p w k r e l room there wide n same =
+    let past : drop k (drop p o) ≡ drop (p + length e) o = rw (wide, n) (drop-drop w p o) in
+    let b : put_mid p k o l ≡ splice o p e =
+    rw (same, past) (sym (splice_cut o p e (omega arith) ∙ append_assoc (take p o) e (drop (p + length e) o))) in
+    record { wide = n; place = there; long = ap length b ∙ length_splice o p e; bytes = b }

@@ -1,98 +1,49 @@
 // Writes into lent bytes. Each answers the place after what it put, and changes no other byte.
-ghost use Rattle.std.specs.Prelude.{◌≡◌, [], ◌∷◌, ◌+◌, ◌*◌, ◌≤◌, ◌<◌, length, take, replicate};
-ghost use Rattle.core_read.specs.Bytes.{little, bytes_of, bytes_of_all, bits_of, fixed, padding, Room, Put};
+ghost use Rattle.std.specs.Prelude.{◌≡◌, ◌+◌, ◌*◌, ◌≤◌, length, take, replicate};
+ghost use Rattle.core_read.specs.Bytes.{bytes_of, bytes_of_all, bits_of, fixed, padding, Room, Put};
 
 use core_read::cursor::ByteOrder;
-use core_read::signed;
-use core_read::text::{FixedString8, FixedString24};
+use core_read::number::Number;
+use core_read::text::FixedString;
 
 // ---- numbers
 
-fn put_byte(out: &mut [u8], p: usize, v: u8) -> usize
-    requires { Room out.old p 1 }
-    ensures { Put out.old p 1 (v ∷ []) result out.new }
+pub fn put_number<T: Number>(order: ByteOrder, out: &mut [u8], p: usize, v: T) -> usize
+    requires { Room out.old p T.WIDTH }
+    ensures { Put out.old p T.WIDTH (bytes_of order T.WIDTH (T.bits v)) result out.new }
 {
-    out[p] = v;
-    p + 1
+    let end = p + T::WIDTH;
+    v.to_bytes(order, &mut out[p..end]);
+    end
 }
 
+// The same by type, kept: the name shows the width that document 01 gives a field, which put_number leaves to v's type.
 pub fn put_u8(order: ByteOrder, out: &mut [u8], p: usize, v: u8) -> usize
     requires { Room out.old p 1 }
     ensures { Put out.old p 1 (bytes_of order 1 v) result out.new }
 {
-    put_byte(out, p, v)
-}
-
-fn put_little16(out: &mut [u8], p: usize, v: u16) -> usize
-    requires { Room out.old p 2 }
-    ensures { Put out.old p 2 (bytes_of ByteOrder.Little 2 v) result out.new }
-{
-    out[p] = (v % 256) as u8;
-    let a = p + 1;
-    let x = v / 256;
-    out[a] = (x % 256) as u8;
-    a + 1
-}
-
-fn put_little32(out: &mut [u8], p: usize, v: u32) -> usize
-    requires { Room out.old p 4 }
-    ensures { Put out.old p 4 (bytes_of ByteOrder.Little 4 v) result out.new }
-{
-    out[p] = (v % 256) as u8;
-    let a = p + 1;
-    let x = v / 256;
-    out[a] = (x % 256) as u8;
-    let b = a + 1;
-    let y = x / 256;
-    out[b] = (y % 256) as u8;
-    let c = b + 1;
-    let z = y / 256;
-    out[c] = (z % 256) as u8;
-    c + 1
-}
-
-// The number whose bytes are those of v the other way round.
-fn swap_bytes16(v: u16) -> u16
-    ensures { result ≡ little (bytes_of ByteOrder.Big 2 v) }
-{
-    v / 256 + 256 * (v % 256)
-}
-
-fn swap_bytes32(v: u32) -> u32
-    ensures { result ≡ little (bytes_of ByteOrder.Big 4 v) }
-{
-    let x = v / 256;
-    let y = x / 256;
-    let z = y / 256;
-    z + 256 * (y % 256) + 65536 * (x % 256) + 16777216 * (v % 256)
+    put_number(order, out, p, v)
 }
 
 pub fn put_u16(order: ByteOrder, out: &mut [u8], p: usize, v: u16) -> usize
     requires { Room out.old p 2 }
     ensures { Put out.old p 2 (bytes_of order 2 v) result out.new }
 {
-    match order {
-        ByteOrder::Little => put_little16(out, p, v),
-        ByteOrder::Big => put_little16(out, p, swap_bytes16(v)),
-    }
+    put_number(order, out, p, v)
 }
 
 pub fn put_u32(order: ByteOrder, out: &mut [u8], p: usize, v: u32) -> usize
     requires { Room out.old p 4 }
     ensures { Put out.old p 4 (bytes_of order 4 v) result out.new }
 {
-    match order {
-        ByteOrder::Little => put_little32(out, p, v),
-        ByteOrder::Big => put_little32(out, p, swap_bytes32(v)),
-    }
+    put_number(order, out, p, v)
 }
 
 pub fn put_i16(order: ByteOrder, out: &mut [u8], p: usize, v: i16) -> usize
     requires { Room out.old p 2 }
     ensures { Put out.old p 2 (bytes_of order 2 (bits_of v)) result out.new }
 {
-    let bits = signed::bits_of(v);
-    put_u16(order, out, p, bits)
+    put_number(order, out, p, v)
 }
 
 // A list of numbers of 2 bytes, one after the other.
@@ -101,10 +52,8 @@ pub fn put_u16s(order: ByteOrder, out: &mut [u8], p: usize, list: &[u16]) -> usi
     ensures { Put out.old p (2 * length list.now) (bytes_of_all order 2 list.now) result out.new }
 {
     let mut q = p;
-    let mut i = 0;
-    while i < list.len() {
-        q = put_u16(order, out, q, list[i]);
-        i += 1;
+    for v in list {
+        q = put_number(order, out, q, *v);
     }
     q
 }
@@ -116,13 +65,9 @@ pub fn put_bytes(out: &mut [u8], p: usize, s: &[u8]) -> usize
     requires { Room out.old p (length s.now) }
     ensures { Put out.old p (length s.now) s.now result out.new }
 {
-    let mut q = p;
-    let mut i = 0;
-    while i < s.len() {
-        q = put_byte(out, q, s[i]);
-        i += 1;
-    }
-    q
+    let end = p + s.len();
+    out[p..end].copy_from_slice(s);
+    end
 }
 
 // n zeros.
@@ -130,13 +75,9 @@ pub fn put_zeros(out: &mut [u8], p: usize, n: usize) -> usize
     requires { Room out.old p n }
     ensures { Put out.old p n (replicate n 0) result out.new }
 {
-    let mut q = p;
-    let mut i = 0;
-    while i < n {
-        q = put_byte(out, q, 0);
-        i += 1;
-    }
-    q
+    let end = p + n;
+    out[p..end].fill(0);
+    end
 }
 
 // The bytes of s and zeros after them, width bytes in all.
@@ -148,22 +89,13 @@ pub fn put_string(out: &mut [u8], p: usize, s: &[u8], width: usize) -> usize
     put_zeros(out, q, width - s.len())
 }
 
-pub fn put_string24(out: &mut [u8], p: usize, s: FixedString24) -> usize
-    requires { (s.count ≤ 24) × Room out.old p 24 }
-    ensures { Put out.old p 24 (fixed 24 (take s.count s.bytes)) result out.new }
+pub fn put_fixed_string<const N: usize>(out: &mut [u8], p: usize, s: FixedString<N>) -> usize
+    requires { (s.count ≤ N) × Room out.old p N }
+    ensures { Put out.old p N (fixed N (take s.entry.count s.entry.bytes)) result out.new }
 {
     let b = s.bytes;
     let k = s.count;
-    put_string(out, p, &b[..k], 24)
-}
-
-pub fn put_string8(out: &mut [u8], p: usize, s: FixedString8) -> usize
-    requires { (s.count ≤ 8) × Room out.old p 8 }
-    ensures { Put out.old p 8 (fixed 8 (take s.count s.bytes)) result out.new }
-{
-    let b = s.bytes;
-    let k = s.count;
-    put_string(out, p, &b[..k], 8)
+    put_string(out, p, &b[..k], N)
 }
 
 // ---- padding to a multiple of 4 of the absolute place

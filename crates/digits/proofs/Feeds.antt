@@ -1,17 +1,34 @@
 -- The laws of a text that is taken byte by byte, up to its line feed.
-use mathlib.Core.Path.{◌≡◌, sym, ap, ◌∙◌}
+use mathlib.Core.Path.{◌≡◌, refl, sym, ap, ◌∙◌}
 use mathlib.Core.Bool.{Bool, true, false, cond}
-use Prim.Native.Nat.{ℕ, ◌+◌, ◌≤◌, ◌<◌}
+use Prim.Native.Nat.{ℕ, ◌+◌, ◌-◌, ◌≤◌, ◌<◌}
 use native.Mathlib.Numerals.{add-one}
 use native.Mathlib.Omega.{arith}
 use mathlib.Core.List.{List, [], ◌∷◌}
 use lib.ListN.{length, drop, get_or, drop_of_length-le, length-drop}
 use lib.Seq.{drop-cons}
-use lib.Dec.{eqb}
-use borrow.Author.Tests.{eq-eqb, ne_eqb}
-use Rattle.digits.specs.Digits.{line_after, bytes_after, before_feed, line_after_all, bytes_after_all, fed}
+use lib.Dec.{eqb, leb, ltb}
+use borrow.Author.Tests.{eq-eqb, ne_eqb, leb-true}
+use Rattle.std.specs.Prelude.{Option, Some, None}
+use Rattle.digits.specs.Digits.{value_of, line_after, bytes_after, before_feed, line_after_all, bytes_after_all, fed}
 use Rattle.digits.specs.declared.Fed.{Fed}
 use Rattle.digits.specs.declared.Line.{Line}
+
+-- a digit's value is below 16
+small_by : (t : Bool) (x v : ℕ) (o : Option ℕ) → (t ≡ true → x < 16) → (o ≡ Some v → v < 16) → cond t (Some x) o ≡ Some v → v < 16
+small_by true x v o f g e = let h = f refl in let k : x ≡ v = cc in omega (arith, h)
+small_by false x v o f g e = g e
+
+none_by : (t : Bool) (v : ℕ) (o : Option ℕ) → (o ≡ Some v → v < 16) → cond t None o ≡ Some v → v < 16
+none_by true v o g e = cc
+none_by false v o g e = g e
+
+pub digit_small : (b v : ℕ) → value_of b ≡ Some v → v < 16
+unfolding value_of
+digit_small b v e =
+    none_by (ltb b 48) v _ (small_by (leb b 57) (b - 48) v _ (λ t. let h = leb-true b 57 t in omega (arith, h))
+    (none_by (ltb b 65) v _ (small_by (leb b 70) (b - 65 + 10) v _ (λ t. let h = leb-true b 70 t in omega (arith, h))
+    (none_by (ltb b 97) v _ (small_by (leb b 102) (b - 97 + 10) v _ (λ t. let h = leb-true b 102 t in omega (arith, h)) (λ n. cc)))))) e
 
 -- what is left to be taken from a place on: none at the end, none at a line feed, else the byte there and what is left after it
 pub left_none : (t : List ℕ) (i : ℕ) → length t ≤ i → before_feed (drop i t) ≡ []

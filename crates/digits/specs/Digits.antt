@@ -1,17 +1,22 @@
 -- A line of hexadecimal digits, taken a byte at a time.
-use Rattle.std.specs.Prelude.{ℕ, ◌+◌, ◌-◌, ◌*◌, ◌/◌, ◌%◌, Bool, true, false, cond, ◌&&◌, List, [], ◌∷◌, length, get_or, set, drop, ltb, leb, eqb}
+use Rattle.std.specs.Prelude.{ℕ, ◌+◌, ◌-◌, ◌*◌, ◌/◌, ◌%◌, Bool, true, false, not, cond, ◌&&◌, ◌||◌, Option, Some, None, is_some, List, [], ◌∷◌, length, get_or, set, drop, ltb, leb, eqb}
+use Rattle.std.specs.Option.{option_map_or}
 use Rattle.digits.specs.declared.Fed.{Fed}
 use Rattle.digits.specs.declared.Line.{Line}
 
--- the value of a digit of either case; 16 of any other byte
-unfoldable pub value_of : ℕ → ℕ
-value_of b = cond (ltb b 48) 16 (cond (leb b 57) (b - 48) (cond (ltb b 65) 16 (cond (leb b 70) (b - 65 + 10) (cond (ltb b 97) 16 (cond (leb b 102) (b - 97 + 10) 16)))))
+-- the value of a digit of either case; any other byte has none
+unfoldable pub value_of : ℕ → Option ℕ
+value_of b = cond (ltb b 48) None (cond (leb b 57) (Some (b - 48)) (cond (ltb b 65) None (cond (leb b 70) (Some (b - 65 + 10)) (cond (ltb b 97) None (cond (leb b 102) (Some (b - 97 + 10)) None)))))
 
 unfoldable pub blank_line : Line
-blank_line = record { digits = 0; begun = false; bad = false }
+blank_line = record { digits = 0; bad = false }
 
 unfoldable pub bad_line : ℕ → Line
-bad_line n = record { digits = n; begun = true; bad = true }
+bad_line n = record { digits = n; bad = true }
+
+-- a byte was taken
+unfoldable pub has_begun : Line → Bool
+has_begun l = l.bad || not (eqb l.digits 0)
 
 -- a value as the high half of the byte at a place, or as its low half
 unfoldable pub half_put : List ℕ → ℕ → Bool → ℕ → List ℕ
@@ -19,13 +24,13 @@ half_put s at high v = cond (ltb at (length s)) (set s at (cond high (v * 16) (g
 
 -- not hexadecimal, or overlong
 unfoldable pub refused : Line → ℕ → Bool
-refused l b = cond (ltb 15 (value_of b)) true (leb 8192 l.digits)
+refused l b = cond (is_some (value_of b)) (leb 8192 l.digits) true
 
 unfoldable pub line_after : Line → ℕ → Line
-line_after l b = cond (refused l b) (bad_line l.digits) (record { digits = l.digits + 1; begun = true; bad = l.bad })
+line_after l b = cond (refused l b) (bad_line l.digits) (record { digits = l.digits + 1; bad = l.bad })
 
 unfoldable pub bytes_after : List ℕ → Line → ℕ → List ℕ
-bytes_after s l b = cond (refused l b) s (half_put s (l.digits / 2) (eqb (l.digits % 2) 0) (value_of b))
+bytes_after s l b = cond (refused l b) s (option_map_or (λ v. half_put s (l.digits / 2) (eqb (l.digits % 2) 0) v) (value_of b) s)
 
 -- an even count of digits, none of them bad, whose bytes have room
 unfoldable pub even_line : Line → ℕ → Bool

@@ -2,16 +2,15 @@
 #![tactic(auto)]
 
 ghost use Rattle.std.specs.Prelude.{◌≡◌, ◌+◌, ◌*◌, ◌/◌, ◌<◌, drop};
-ghost use Rattle.digits.specs.Digits.{value_of, blank_line, bad_line, half_put, line_after, bytes_after, even_line, before_feed, bytes_after_all, fed};
+ghost use Rattle.digits.specs.Digits.{value_of, blank_line, bad_line, has_begun, half_put, line_after, bytes_after, even_line, before_feed, bytes_after_all, fed};
 
 // The most digits of a line.
 pub const MOST: usize = 8192;
 
-// The line so far: how many digits it has, whether it has begun, and whether it is bad.
+// The line so far: how many digits it has, and whether it is bad. A bad line counts the digits after its fault too.
 #[derive(Clone, Copy)]
 pub struct Line {
     pub digits: usize,
-    pub begun: bool,
     pub bad: bool,
 }
 
@@ -27,7 +26,6 @@ pub fn blank_line() -> Line
 {
     Line {
         digits: 0,
-        begun: false,
         bad: false,
     }
 }
@@ -35,36 +33,28 @@ pub fn blank_line() -> Line
 fn bad_line(digits: usize) -> Line
     ensures { result ≡ bad_line digits }
 {
-    Line {
-        digits,
-        begun: true,
-        bad: true,
-    }
+    Line { digits, bad: true }
 }
 
-// A digit's value, or 16.
-pub fn value_of(b: u8) -> u8
+// Whether a byte of the line was taken.
+#[tactic(auto, unfolding(crate::specs::Digits::has_begun))]
+pub fn has_begun(line: Line) -> bool
+    ensures { result ≡ has_begun line }
+{
+    line.bad | (line.digits != 0)
+}
+
+// A digit's value.
+#[tactic(auto, unfolding(crate::specs::Digits::value_of))]
+pub fn value_of(b: u8) -> Option<u8>
     ensures { result ≡ value_of b }
 {
-    if b < b'0' {
-        return 16;
+    match b {
+        b'0'..=b'9' => Some(b - b'0'),
+        b'A'..=b'F' => Some(b - b'A' + 10),
+        b'a'..=b'f' => Some(b - b'a' + 10),
+        _ => None,
     }
-    if b <= b'9' {
-        return b - b'0';
-    }
-    if b < b'A' {
-        return 16;
-    }
-    if b <= b'F' {
-        return b - b'A' + 10;
-    }
-    if b < b'a' {
-        return 16;
-    }
-    if b <= b'f' {
-        return b - b'a' + 10;
-    }
-    16
 }
 
 // A byte with another low half.
@@ -90,22 +80,21 @@ fn put_half(bytes: &mut [u8], at: usize, high: bool, v: u8)
 }
 
 // The line after one more byte that does not end it.
+#[tactic(auto, using(crate::proofs::Feeds::digit_small), unfolding(crate::specs::Digits::refused, crate::specs::Digits::line_after, crate::specs::Digits::bytes_after))]
 pub fn digit(bytes: &mut [u8], line: Line, b: u8) -> Line
     ensures value { result ≡ line_after line b }
     ensures bytes_after { bytes.new ≡ bytes_after bytes.old line b }
 {
-    let v = value_of(b);
     let n = line.digits;
-    if 15 < v {
+    let Some(v) = value_of(b) else {
         return bad_line(n);
-    }
+    };
     if MOST <= n {
         return bad_line(n);
     }
     put_half(bytes, n / 2, n % 2 == 0, v);
     Line {
         digits: n + 1,
-        begun: true,
         bad: line.bad,
     }
 }
@@ -116,16 +105,17 @@ pub fn feed(text: &[u8], at: usize, bytes: &mut [u8], line: Line) -> Fed
     ensures bytes_after { bytes.new ≡ bytes_after_all bytes.old line (before_feed (drop at text.now)) }
 {
     let mut l = line;
-    let mut i = at;
-    while i < text.len() {
+    for i in at..text.len() {
         let b = text[i];
         if b == b'\n' {
             return Fed { line: l, at: i };
         }
         l = digit(bytes, l, b);
-        i += 1;
     }
-    Fed { line: l, at: i }
+    Fed {
+        line: l,
+        at: at.max(text.len()),
+    }
 }
 
 // Whether a line that has ended spells bytes, and no more than there is room for.

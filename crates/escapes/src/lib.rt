@@ -14,14 +14,14 @@ use core_write::writer::put_bytes;
 fn is_control(b: u8) -> bool
     ensures { result ≡ control b }
 {
-    (b < 0x20) | (b == 0x7F)
+    b.is_ascii_control()
 }
 
 // The byte at a place, or 0 beyond the end.
 fn byte_at(s: &[u8], i: usize) -> u8
     ensures { result ≡ get_or s.now i 0 }
 {
-    if i < s.len() { s[i] } else { 0 }
+    s.get(i).copied().unwrap_or(0)
 }
 
 // How many bytes the first character has, if it is one that is written out.
@@ -40,32 +40,25 @@ fn hidden_width(s: &[u8]) -> usize
     0
 }
 
-fn less(i: usize, k: usize) -> usize
-    ensures { result ≡ i - k }
-{
-    if k < i { i - k } else { 0 }
-}
-
 // Whether byte i is in such a character, which begins there, or 1 or 2 bytes before.
 fn hidden(s: &[u8], i: usize) -> bool
     requires { i < length s.now }
     ensures { result ≡ Escaped·hidden s.now i }
 {
-    let a = less(i, 1);
-    let b = less(i, 2);
-    let first = hidden_width(&s[i..]);
-    let second = hidden_width(&s[a..]);
-    let third = hidden_width(&s[b..]);
-    (0 < first) | ((1 < second) | (2 < third))
+    (0..3).any(|back: usize| back < hidden_width(&s[i.saturating_sub(back)..]))
 }
 
 // ---- how they are written
 
+#[tactic(auto, unfolding(crate::specs::Escaped::hex_digit))]
 fn hex_digit(d: u8) -> u8
     requires { d < 16 }
     ensures { result ≡ hex_digit d }
 {
-    if d < 10 { 48 + d } else { 55 + d }
+    match d {
+        0..=9 => b'0' + d,
+        _ => b'A' + (d - 10),
+    }
 }
 
 // The two digits of a byte, the high half first.
@@ -119,11 +112,9 @@ pub fn put_escaped(out: &mut [u8], p: usize, s: &[u8], ascii: bool) -> usize
     ensures upper_bound { result ≤ p + 4 * length s.now }
 {
     let mut q = p;
-    let mut i = 0;
-    while i < s.len() {
+    for (i, b) in s.iter().enumerate() {
         let write_out = is_written_out(s, i, ascii);
-        q = put_shown(out, q, write_out, s[i]);
-        i += 1;
+        q = put_shown(out, q, write_out, *b);
     }
     q
 }

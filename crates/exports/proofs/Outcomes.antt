@@ -1,55 +1,60 @@
 -- What a write answers, and what a caller sees, branch by branch.
-use mathlib.Core.Path.{◌≡◌, sym, ap, ◌∙◌}
+use mathlib.Core.Path.{◌≡◌, ap, ◌∙◌}
 use Prim.Native.Nat.{ℕ, ◌≤◌, ◌<◌}
 use mathlib.Core.List.{List}
 use lib.ListN.{length, get_or}
 use borrow.Author.Tests.{lt-ltb, le-ltb}
 use Rattle.core_read.specs.declared.cursor.ByteOrder.{ByteOrder}
-use Rattle.core_checks.specs.declared.checks.Written.{Written}
 use Rattle.strip_records.specs.Whole.{Lists, lists}
 use Rattle.strip_write.specs.Write.{write_answer, write_output}
 use Rattle.strip_records.specs.declared.kind.Kind.{Kind}
 use Rattle.flat_records.specs.Records.{kind_of, record_by}
-use Rattle.flat_records.specs.Below.{words_checked}
-use Rattle.flat_records.specs.declared.bounds.Checked.{Checked}
-use Rattle.flat_records.specs.declared.bounds.Checked.TheVariants.{Good, Bad}
-use Rattle.exports_answers.specs.Answers.{short_record, bad_order, order_of, of_order, bad_word, written_answer, returned, given}
+use Rattle.std.proofs.Common.{Some, Result, Ok, Err}
+use Rattle.core_read.specs.declared.error.Refusal.{Refusal}
+use Rattle.exports_answers.specs.declared.answers.Fault.{Fault}
+use Rattle.exports_answers.specs.declared.answers.Fault.TheVariants as Faults
+use Rattle.exports_answers.proofs.Orders.{order_fault}
+use Rattle.exports_answers.specs.Answers.{order_of, or_bad_order, of_order, written_answer, written_told, returned, given}
 use Rattle.exports_answers.specs.declared.answers.Answer.{Answer}
-use Rattle.exports_answers.specs.declared.answers.OrderFound.TheVariants.{Is, Other}
 use Rattle.exports_read.specs.Outcomes.{ReadOutcome, read_outcome}
 use Rattle.exports_parts.specs.Counts.{filled_outcome}
-use Rattle.exports_parts.specs.Parts.{of_record}
-use Rattle.exports_parts.proofs.Outcomes.{of_short, of_bad, of_good}
+use Rattle.exports_parts.specs.Parts.{of_record, record_checked}
+use Rattle.exports_parts.proofs.Outcomes.{of_fault, of_good}
 use Rattle.exports.specs.Calls.{WriteOutcome, write_outcome, section_written, body_written, read_seen, seen_read, write_seen, seen_write, seen_part, filled_call}
 use Rattle.flat_write.specs.Bodies.{body_answer, body_output}
+use Rattle.core_checks.specs.Checks.{Written}
 
 -- ---- writes
 
 -- where nothing is written, of a section and of a body alike
-module _ (n : ℕ) (o : List ℕ) (then : ByteOrder → WriteOutcome) (x : Answer) where
-  pub written_other : order_of n ≡ Other → x ≡ bad_order n → write_outcome x o ≡ of_order n (λ a. write_outcome a o) then
-  written_other h e = rw (h, e)
+module _ (n : ℕ) (o : List ℕ) (then : ByteOrder → WriteOutcome) (r : Result ℕ Fault) (f : Fault) where
+  pub written_other : or_bad_order n (order_of n) ≡ Err f → r ≡ Err f → write_outcome (written_told r) o ≡ of_order n (λ a. write_outcome a o) then
+  written_other g er = ap (λ (q : Result ℕ Fault). write_outcome (written_told q) o) er ∙ order_fault n (λ (a : Answer). write_outcome a o) then f g
 
-  module _ (w : List ℕ) (order : ByteOrder) (g : order_of n ≡ Is order) where
-    pub written_short : length w < 116 → x ≡ short_record → write_outcome x o ≡ of_order n (λ a. write_outcome a o) (λ b. of_record w (λ a. write_outcome a o) (then b))
-    written_short h e = rw g (ap (λ (a : Answer). write_outcome a o) e ∙ of_short w (λ (a : Answer). write_outcome a o) _ h)
+  pub written_bad : (w : List ℕ) (order : ByteOrder) → order_of n ≡ Some order → record_checked w ≡ Err f → r ≡ Err f
+      → write_outcome (written_told r) o ≡ of_order n (λ a. write_outcome a o) (λ b. of_record w (λ a. write_outcome a o) (then b))
+  written_bad w order g e er = rw g (ap (λ (q : Result ℕ Fault). write_outcome (written_told q) o) er ∙ of_fault w (λ (a : Answer). write_outcome a o) _ f e)
 
-    pub written_bad : (c : Checked) (i : ℕ) → 116 ≤ length w → c ≡ words_checked w → c ≡ Bad i → x ≡ bad_word i
-        → write_outcome x o ≡ of_order n (λ a. write_outcome a o) (λ b. of_record w (λ a. write_outcome a o) (then b))
-    written_bad c i h ec ei e = rw g (ap (λ (a : Answer). write_outcome a o) e ∙ of_bad w (λ (a : Answer). write_outcome a o) _ i h (sym ec ∙ ei))
+-- what a write answers is told so
+module _ (v : Written) (r : Result ℕ Fault) where
+  pub told_refused : (why : Refusal) (f : Fault) → v ≡ Err why → r ≡ Err f → f ≡ Faults.Refused why → written_told r ≡ written_answer v
+  told_refused why f ev er ef = rw (er, ef, ev)
+
+  pub told_end : (end : ℕ) → v ≡ Ok end → r ≡ Ok end → written_told r ≡ written_answer v
+  told_end end ev er = rw (er, ev)
 
 module _ (n : ℕ) (w : List ℕ) (l : Lists) (name o : List ℕ) (p : ℕ) (x : Answer) where
-  pub section_written_lem : (order : ByteOrder) (o' : List ℕ) (c : Checked) (k : Kind) (v : Written) → order_of n ≡ Is order → 116 ≤ length w → c ≡ words_checked w → c ≡ Good → k ≡ kind_of (get_or w 0 0)
+  pub section_written_lem : (order : ByteOrder) (o' : List ℕ) (u : Unit {0}) (k : Kind) (v : Written) → order_of n ≡ Some order → record_checked w ≡ Ok u → k ≡ kind_of (get_or w 0 0)
       → v ≡ write_answer (record { pane = record_by k w; lists = l; label = name }) (length o) p → o' ≡ write_output order (record { pane = record_by k w; lists = l; label = name }) o p
       → x ≡ written_answer v → write_outcome x o' ≡ section_written n w l name o p
   unfolding section_written
-  section_written_lem order o' c k v g h ec eg ek ev eo ex = rw (g, ex, ev, eo, ek) (of_good w (λ (a : Answer). write_outcome a o) _ h (sym ec ∙ eg))
+  section_written_lem order o' u k v g e ek ev eo ex = rw (g, ex, ev, eo, ek) (of_good w (λ (a : Answer). write_outcome a o) _ u e)
 
-  pub body_written_lem : (order : ByteOrder) (o' : List ℕ) (c : Checked) (k : Kind) (v : Written) → order_of n ≡ Is order → 116 ≤ length w → c ≡ words_checked w → c ≡ Good → k ≡ kind_of (get_or w 0 0)
+  pub body_written_lem : (order : ByteOrder) (o' : List ℕ) (u : Unit {0}) (k : Kind) (v : Written) → order_of n ≡ Some order → record_checked w ≡ Ok u → k ≡ kind_of (get_or w 0 0)
       → v ≡ body_answer k (record { pane = record_by k w; lists = l; label = name }) (length o) p → o' ≡ body_output order k (record { pane = record_by k w; lists = l; label = name }) o p
       → x ≡ written_answer v → write_outcome x o' ≡ body_written n w l name o p
   unfolding body_written record_by
-  body_written_lem order o' c k v g h ec eg ek ev eo ex = rw (g, ex, ev, eo, ek) (of_good w (λ (a : Answer). write_outcome a o) _ h (sym ec ∙ eg))
+  body_written_lem order o' u k v g e ek ev eo ex = rw (g, ex, ev, eo, ek) (of_good w (λ (a : Answer). write_outcome a o) _ u e)
 
 -- ---- what the caller sees
 

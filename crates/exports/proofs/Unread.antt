@@ -15,8 +15,7 @@ use Rattle.flat_write.specs.Bodies.{body_answer, body_output}
 use Rattle.flat_write.proofs.Unread.{of, section_answer, section_output, body_answer_lem, body_output_lem}
 use Rattle.exports_answers.specs.Answers.{unless_other, bad_order, order_of}
 use Rattle.exports_answers.specs.declared.answers.Answer.{Answer}
-use Rattle.exports_answers.specs.declared.answers.OrderFound.{OrderFound}
-use Rattle.exports_answers.specs.declared.answers.OrderFound.TheVariants.{Is, Other}
+use Rattle.std.proofs.Common.{Option, Some, None}
 use Rattle.exports_parts.specs.Parts.{of_record}
 use Rattle.exports.specs.Calls.{WriteOutcome, write_outcome, section_written, body_written}
 
@@ -24,9 +23,9 @@ use Rattle.exports.specs.Calls.{WriteOutcome, write_outcome, section_written, bo
 through : {A : Type 0} (f : Record → A) (w v : List ℕ) → ((r : Record) → f (plain r) ≡ f r) → SameRead w v → f (record_of w) ≡ f (record_of v)
 through f w v h g = sym (h (record_of w)) ∙ ap f (plain_alike w v g) ∙ h (record_of v)
 
-found_alike : {A : Type 0} (x : OrderFound) (bad : A) (f h : ByteOrder → A) → ((order : ByteOrder) → f order ≡ h order) → unless_other x bad f ≡ unless_other x bad h
-found_alike (Is order) bad f h e = e order
-found_alike Other bad f h e = refl
+found_alike : {A : Type 0} (x : Option ByteOrder) (bad : A) (f h : ByteOrder → A) → ((order : ByteOrder) → f order ≡ h order) → unless_other x bad f ≡ unless_other x bad h
+found_alike (Some order) bad f h e = e order
+found_alike None bad f h e = refl
 
 tested_alike : (w v : List ℕ) (bad : Answer → WriteOutcome) (x y : WriteOutcome) → SameRead w v → x ≡ y → of_record w bad x ≡ of_record v bad y
 unfolding of_record

@@ -33,7 +33,7 @@ pub extern "C" fn bidlomeqa_read_section(
         return layout::SHORT_ANSWER;
     }
     let x = reads::read_section(order, data, place, quads, units, lines, frames, record);
-    answers::give(answer, x)
+    answers::give(answer, answers::section(x))
 }
 
 // The body of a kind at a place of data.
@@ -58,7 +58,7 @@ pub extern "C" fn bidlomeqa_read_body(
     let x = reads::read_body(
         order, kind, data, place, quads, units, lines, frames, record,
     );
-    answers::give(answer, x)
+    answers::give(answer, answers::section(x))
 }
 
 // The section of a record at a place of out.
@@ -83,7 +83,7 @@ pub extern "C" fn bidlomeqa_write_section(
     let x = calls::write_section(
         order, record, quads, units, lines, frames, label, out, place,
     );
-    answers::give(answer, x)
+    answers::give(answer, answers::written(x))
 }
 
 // The body of a record at a place of out.
@@ -108,7 +108,7 @@ pub extern "C" fn bidlomeqa_write_body(
     let x = calls::write_body(
         order, record, quads, units, lines, frames, label, out, place,
     );
-    answers::give(answer, x)
+    answers::give(answer, answers::written(x))
 }
 
 // Where the label of a record stands in data.
@@ -120,7 +120,7 @@ pub extern "C" fn bidlomeqa_label(data: &[u8], record: &[u64], answer: &mut [u64
         return layout::SHORT_ANSWER;
     }
     let x = parts::label(data, record);
-    answers::give(answer, x)
+    answers::give(answer, answers::part_told(x))
 }
 
 // The label in the strip, or the lent caption.
@@ -137,7 +137,7 @@ pub extern "C" fn bidlomeqa_caption(
         return layout::SHORT_ANSWER;
     }
     let x = parts::caption(strip, record, lent);
-    answers::give(answer, x)
+    answers::give(answer, answers::part_told(x))
 }
 
 // How many numbers of each list a record counts: a read of it filled the first so many, and a write of it is to be handed so many.

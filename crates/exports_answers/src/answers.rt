@@ -1,13 +1,14 @@
 // What a call answers: the number that it returns, and its answer's words, each kind of answer in turn.
 ghost use Rattle.std.specs.Prelude.{◌≡◌, ◌≤◌, length};
-ghost use Rattle.exports_answers.specs.Answers.{short_record, bad_word, bad_order, order_of, refused_answer, section_answer, written_answer, part_answer, returned, given};
+ghost use Rattle.exports_answers.specs.declared.answers.Fault.TheVariants.{Refused};
+ghost use Rattle.exports_answers.specs.Answers.{or_bad_order, order_of, refused_answer, fault_answer, section_told, written_told, part_told, returned, given};
 
-use core_checks::checks::Written;
 use core_read::cursor::ByteOrder;
 use core_read::error::Refusal;
 use flat::layout;
 use strip_header::Section;
 
+// A code and three words, not an enum: it is what crosses to C. Calls answer Results, and these are made of them here alone.
 #[derive(Clone, Copy)]
 pub struct Answer {
     pub code: u64,
@@ -16,56 +17,33 @@ pub struct Answer {
     pub c: u64,
 }
 
-// The byte order that a number names, if it names one.
+// Why a call does nothing: a record of too few words, a word of it that is not below its bound, a number that names no byte order, or a refusal.
 #[derive(Clone, Copy)]
-pub enum OrderFound {
-    Is(ByteOrder),
-    Other,
+pub enum Fault {
+    ShortRecord,
+    BadWord { index: usize },
+    BadOrder { number: u64 },
+    Refused(Refusal),
 }
 
-pub fn short_record() -> Answer
-    ensures { result ≡ short_record }
-{
-    Answer {
-        code: layout::SHORT_RECORD,
-        a: layout::RECORD_WORDS as u64,
-        b: 0,
-        c: 0,
-    }
-}
+impl From<Refusal> for Fault {
+    ghost from_gives = { λ why f. f ≡ Refused why };
 
-pub fn bad_word(index: usize) -> Answer
-    ensures { result ≡ bad_word index }
-{
-    Answer {
-        code: layout::BAD_WORD,
-        a: index as u64,
-        b: 0,
-        c: 0,
+    fn from(why: Refusal) -> Fault {
+        Fault::Refused(why)
     }
 }
 
-pub fn bad_order(n: u64) -> Answer
-    ensures { result ≡ bad_order n }
+// The byte order that a number names, if it names one.
+#[tactic(auto, unfolding(crate::specs::Answers::order_of))]
+pub fn order_of(n: u64) -> Result<ByteOrder, Fault>
+    ensures { result ≡ or_bad_order n (order_of n) }
 {
-    Answer {
-        code: layout::BAD_ORDER,
-        a: n,
-        b: 0,
-        c: 0,
+    match n {
+        layout::LITTLE => Ok(ByteOrder::Little),
+        layout::BIG => Ok(ByteOrder::Big),
+        _ => Err(Fault::BadOrder { number: n }),
     }
-}
-
-pub fn order_of(n: u64) -> OrderFound
-    ensures { result ≡ order_of n }
-{
-    if n == layout::LITTLE {
-        return OrderFound::Is(ByteOrder::Little);
-    }
-    if n == layout::BIG {
-        return OrderFound::Is(ByteOrder::Big);
-    }
-    OrderFound::Other
 }
 
 pub fn refused(why: Refusal) -> Answer
@@ -82,54 +60,97 @@ pub fn refused(why: Refusal) -> Answer
     }
 }
 
-pub fn section(s: Section) -> Answer
-    ensures { result ≡ section_answer s }
+pub fn fault_told(f: Fault) -> Answer
+    ensures { result ≡ fault_answer f }
+{
+    match f {
+        Fault::ShortRecord => Answer {
+            code: layout::SHORT_RECORD,
+            a: layout::RECORD_WORDS as u64,
+            b: 0,
+            c: 0,
+        },
+        Fault::BadWord { index } => Answer {
+            code: layout::BAD_WORD,
+            a: index as u64,
+            b: 0,
+            c: 0,
+        },
+        Fault::BadOrder { number } => Answer {
+            code: layout::BAD_ORDER,
+            a: number,
+            b: 0,
+            c: 0,
+        },
+        Fault::Refused(why) => refused(why),
+    }
+}
+
+pub fn section(s: Result<Section, Fault>) -> Answer
+    ensures { result ≡ section_told s }
 {
     match s {
-        Section::End => Answer {
+        Ok(Section::End) => Answer {
             code: layout::END,
             a: 0,
             b: 0,
             c: 0,
         },
-        Section::Passed { next } => Answer {
+        Ok(Section::Passed { next }) => Answer {
             code: layout::PASSED,
             a: next as u64,
             b: 0,
             c: 0,
         },
-        Section::Pane { end, next, reach } => Answer {
+        Ok(Section::Pane { end, next, reach }) => Answer {
             code: layout::PANE,
             a: end as u64,
             b: next as u64,
             c: reach as u64,
         },
-        Section::Refused(why) => refused(why),
+        Err(f) => fault_told(f),
     }
 }
 
-pub fn written(w: Written) -> Answer
-    ensures { result ≡ written_answer w }
+pub fn written(w: Result<usize, Fault>) -> Answer
+    ensures { result ≡ written_told w }
 {
     match w {
-        Written::End(end) => Answer {
+        Ok(end) => Answer {
             code: layout::WRITTEN,
             a: end as u64,
             b: 0,
             c: 0,
         },
-        Written::Refused(why) => refused(why),
+        Err(f) => fault_told(f),
     }
 }
 
-pub fn part(which: u64, place: usize, length: usize) -> Answer
-    ensures { result ≡ part_answer which place length }
+// A part of the strip (0) or of the lent caption (1): the C interface's number.
+#[derive(Clone, Copy)]
+pub struct Part {
+    pub which: u64,
+    pub place: usize,
+    pub length: usize,
+}
+
+pub fn part_told(x: Result<Part, Fault>) -> Answer
+    ensures { result ≡ part_told x }
 {
-    Answer {
-        code: layout::PART,
-        a: which,
-        b: place as u64,
-        c: length as u64,
+    match x {
+        Ok(
+            Part {
+                which,
+                place,
+                length,
+            },
+        ) => Answer {
+            code: layout::PART,
+            a: which,
+            b: place as u64,
+            c: length as u64,
+        },
+        Err(f) => fault_told(f),
     }
 }
 

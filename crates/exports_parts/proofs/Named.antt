@@ -7,11 +7,11 @@ use lib.ListN.{length, take, drop}
 use lib.Seq.{take-length}
 use lib.Dec.{eqb}
 use Rattle.text_box_caption.specs.Caption.{within, label_of, caption_of}
-use Rattle.text_box_parts.specs.declared.Label.{Label}
-use Rattle.text_box_parts.specs.declared.Label.TheVariants as label
 use Rattle.exports_answers.specs.declared.answers.Answer.{Answer}
 use Rattle.exports_answers.specs.Answers.{part_answer}
 use Rattle.exports_parts.specs.Parts.{label_part, caption_part}
+use Rattle.text_box_parts.specs.Parts.{Label}
+use Rattle.std.specs.Prelude.{None, Some}
 
 -- the part of s that an answer names
 abbrev pub part_of : List ℕ → Answer → List ℕ
@@ -23,8 +23,8 @@ label_by s p n false = refl
 
 -- the label's part is the label
 pub label_is : (s : List ℕ) (l : Label) → part_of s (label_part s l) ≡ label_of s l
-label_is s label.Absent = refl
-label_is s (label.At p n) = label_by s p n (within s p n)
+label_is s None = refl
+label_is s (Some span) = label_by s span.place span.length (within s span.place span.length)
 
 -- the part of the strip (0) or of the lent caption (1) that an answer names
 abbrev pub caption_by : List ℕ → List ℕ → Answer → List ℕ
@@ -36,5 +36,5 @@ caption_by_lem s lent p n false = take-length lent
 
 -- the caption's part is the caption
 pub caption_is : (s lent : List ℕ) (l : Label) → caption_by s lent (caption_part s l lent) ≡ caption_of s l lent
-caption_is s lent label.Absent = take-length lent
-caption_is s lent (label.At p n) = caption_by_lem s lent p n (within s p n)
+caption_is s lent None = take-length lent
+caption_is s lent (Some span) = caption_by_lem s lent span.place span.length (within s span.place span.length)

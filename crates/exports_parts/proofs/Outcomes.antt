@@ -1,90 +1,69 @@
 -- What the label and the caption answer, branch by branch.
-use mathlib.Core.Path.{◌≡◌, sym, ap, ◌∙◌}
-use Prim.Native.Nat.{ℕ, ◌-◌, ◌≤◌, ◌<◌}
-use mathlib.Core.Bool.{true, false}
+use mathlib.Core.Path.{◌≡◌, refl, sym, ap, ◌∙◌}
+use Prim.Native.Nat.{ℕ, ◌≤◌}
+use native.Mathlib.Omega.{arith}
+use mathlib.Core.Bool.{Bool, true, false, cond}
 use mathlib.Core.List.{List}
 use lib.ListN.{length}
-use borrow.Author.Tests.{lt-ltb, le-ltb, le-leb, lt-leb}
-use Rattle.text_box_caption.specs.Caption.{within}
-use Rattle.text_box_parts.specs.declared.Label.{Label}
-use Rattle.text_box_parts.specs.declared.Label.TheVariants as label
-use Rattle.flat_records.specs.Below.{words_checked}
-use Rattle.flat_records.specs.declared.bounds.Checked.{Checked}
-use Rattle.flat_records.specs.declared.bounds.Checked.TheVariants.{Good, Bad}
-use Rattle.exports_answers.specs.Answers.{short_record, bad_word, part_answer}
+use lib.Dec.{ltb}
+use Rattle.flat_records.specs.Below.{Checked, words_checked}
+use Rattle.std.proofs.Common.{Result, Ok, Err}
+use Rattle.exports_answers.specs.Answers.{short_record, fault_answer, part_answer, part_told}
 use Rattle.exports_answers.specs.declared.answers.Answer.{Answer}
-use Rattle.exports_parts.specs.Parts.{of_record, label_of_words, label_part, caption_part, label_outcome, caption_outcome}
+use Rattle.exports_answers.specs.declared.answers.Fault.{Fault}
+use Rattle.exports_answers.specs.declared.answers.Fault.TheVariants as Faults
+use Rattle.exports_answers.specs.declared.answers.Part.{Part}
+use Rattle.exports_parts.specs.Parts.{unless_bad, of_record, as_fault, record_checked, label_of_words, part_or, label_part, caption_part, label_outcome, caption_outcome}
+use Rattle.text_box_parts.specs.Parts.{Label}
 
 -- ---- a call of a record
 
+-- x, or the answer of a fault
+abbrev pub unless_fault : {A : Type 0} → Result (Unit {0}) Fault → (Answer → A) → A → A
+unless_fault (Ok u) bad x = x
+unless_fault (Err f) bad x = bad (fault_answer f)
+
+by_case : {A : Type 0} (bad : Answer → A) (x : A) (t : Bool) (c : Checked)
+    → unless_fault (cond t (Err Faults.ShortRecord) (as_fault c)) bad x ≡ cond t (bad short_record) (unless_bad c bad x)
+by_case bad x true c = refl
+by_case bad x false (Ok u) = refl
+by_case bad x false (Err b) = refl
+
 module _ (w : List ℕ) where
-  pub of_short : {A : Type 0} (bad : Answer → A) (x : A) → length w < 116 → bad short_record ≡ of_record w bad x
-  unfolding of_record
-  of_short bad x h = rw (lt-ltb (length w) 116 h)
+  pub of_checked : {A : Type 0} (bad : Answer → A) (x : A) → unless_fault (record_checked w) bad x ≡ of_record w bad x
+  unfolding of_record record_checked
+  of_checked bad x = by_case bad x (ltb (length w) 116) (words_checked w)
 
-  pub of_bad : {A : Type 0} (bad : Answer → A) (x : A) (i : ℕ) → 116 ≤ length w → words_checked w ≡ Bad i → bad (bad_word i) ≡ of_record w bad x
-  unfolding of_record
-  of_bad bad x i h e = rw (le-ltb (length w) 116 h, e)
+  pub of_fault : {A : Type 0} (bad : Answer → A) (x : A) (f : Fault) → record_checked w ≡ Err f → bad (fault_answer f) ≡ of_record w bad x
+  of_fault bad x f e = sym (ap (λ (r : Result (Unit {0}) Fault). unless_fault r bad x) e) ∙ of_checked bad x
 
-  pub of_good : {A : Type 0} (bad : Answer → A) (x : A) → 116 ≤ length w → words_checked w ≡ Good → x ≡ of_record w bad x
-  unfolding of_record
-  of_good bad x h e = rw (le-ltb (length w) 116 h, e)
+  pub of_good : {A : Type 0} (bad : Answer → A) (x : A) (u : Unit {0}) → record_checked w ≡ Ok u → x ≡ of_record w bad x
+  of_good bad x u e = sym (ap (λ (r : Result (Unit {0}) Fault). unless_fault r bad x) e) ∙ of_checked bad x
+
+-- a record that passes is no short one
+long_by : (n : ℕ) (c : Checked) (u : Unit {0}) → cond (ltb n 116) (Err Faults.ShortRecord) (as_fault c) ≡ Ok u → 116 ≤ n
+long_by n c u e = grind arith
+
+pub long_enough : (w : List ℕ) (u : Unit {0}) → record_checked w ≡ Ok u → 116 ≤ length w
+unfolding record_checked
+long_enough w u e = long_by (length w) (words_checked w) u e
 
 -- ---- the label and the caption
 
-module _ (s w : List ℕ) (x : Answer) where
-  pub label_short : length w < 116 → x ≡ short_record → x ≡ label_outcome s w
+module _ (s w : List ℕ) where
+  pub label_fault : (r : Result Part Fault) (f : Fault) → record_checked w ≡ Err f → r ≡ Err f → part_told r ≡ label_outcome s w
   unfolding label_outcome
-  label_short h e = e ∙ of_short w (λ (a : Answer). a) _ h
+  label_fault r f e er = ap part_told er ∙ of_fault w (λ (a : Answer). a) _ f e
 
-  pub label_bad : (c : Checked) (i : ℕ) → 116 ≤ length w → c ≡ words_checked w → c ≡ Bad i → x ≡ bad_word i → x ≡ label_outcome s w
+  pub label_given : (x : Answer) (l : Label) (u : Unit {0}) → record_checked w ≡ Ok u → l ≡ label_of_words w → x ≡ part_or s l (part_answer 0 0 0) → x ≡ label_outcome s w
   unfolding label_outcome
-  label_bad c i h ec ei e = e ∙ of_bad w (λ (a : Answer). a) _ i h (sym ec ∙ ei)
+  label_given x l u e el ex = ex ∙ ap (label_part s) el ∙ of_good w (λ (a : Answer). a) _ u e
 
-  pub label_given : (c : Checked) (l : Label) → 116 ≤ length w → c ≡ words_checked w → c ≡ Good → l ≡ label_of_words w → x ≡ label_part s l → x ≡ label_outcome s w
-  unfolding label_outcome
-  label_given c l h ec eg el ex = ex ∙ ap (label_part s) el ∙ of_good w (λ (a : Answer). a) _ h (sym ec ∙ eg)
+  module _ (lent : List ℕ) where
+    pub caption_fault : (r : Result Part Fault) (f : Fault) → record_checked w ≡ Err f → r ≡ Err f → part_told r ≡ caption_outcome s w lent
+    unfolding caption_outcome
+    caption_fault r f e er = ap part_told er ∙ of_fault w (λ (a : Answer). a) _ f e
 
-module _ (s w lent : List ℕ) (x : Answer) where
-  pub caption_short : length w < 116 → x ≡ short_record → x ≡ caption_outcome s w lent
-  unfolding caption_outcome
-  caption_short h e = e ∙ of_short w (λ (a : Answer). a) _ h
-
-  pub caption_bad : (c : Checked) (i : ℕ) → 116 ≤ length w → c ≡ words_checked w → c ≡ Bad i → x ≡ bad_word i → x ≡ caption_outcome s w lent
-  unfolding caption_outcome
-  caption_bad c i h ec ei e = e ∙ of_bad w (λ (a : Answer). a) _ i h (sym ec ∙ ei)
-
-  pub caption_given : (c : Checked) (l : Label) → 116 ≤ length w → c ≡ words_checked w → c ≡ Good → l ≡ label_of_words w → x ≡ caption_part s l lent → x ≡ caption_outcome s w lent
-  unfolding caption_outcome
-  caption_given c l h ec eg el ex = ex ∙ ap (λ (m : Label). caption_part s m lent) el ∙ of_good w (λ (a : Answer). a) _ h (sym ec ∙ eg)
-
--- place and length against the strip
-module _ (s : List ℕ) (place long : ℕ) where
-  inside : place ≤ length s → long ≤ length s - place → within s place long ≡ true
-  inside a b = rw (le-leb place (length s) a, le-leb long (length s - place) b)
-
-  beyond : place ≤ length s → length s - place < long → within s place long ≡ false
-  beyond a b = rw (le-leb place (length s) a, lt-leb long (length s - place) b)
-
-  outside : length s < place → within s place long ≡ false
-  outside a = rw (lt-leb place (length s) a)
-
-module _ (s : List ℕ) (l : Label) (place long : ℕ) (e : l ≡ label.At place long) where
-  pub label_in : place ≤ length s → long ≤ length s - place → part_answer 0 place long ≡ label_part s l
-  label_in a b = rw (e, inside s place long a b)
-
-  pub label_beyond : place ≤ length s → length s - place < long → part_answer 0 0 0 ≡ label_part s l
-  label_beyond a b = rw (e, beyond s place long a b)
-
-  pub label_outside : length s < place → part_answer 0 0 0 ≡ label_part s l
-  label_outside a = rw (e, outside s place long a)
-
-module _ (s lent : List ℕ) (l : Label) (place long : ℕ) (e : l ≡ label.At place long) where
-  pub caption_in : place ≤ length s → long ≤ length s - place → part_answer 0 place long ≡ caption_part s l lent
-  caption_in a b = rw (e, inside s place long a b)
-
-  pub caption_beyond : place ≤ length s → length s - place < long → part_answer 1 0 (length lent) ≡ caption_part s l lent
-  caption_beyond a b = rw (e, beyond s place long a b)
-
-  pub caption_outside : length s < place → part_answer 1 0 (length lent) ≡ caption_part s l lent
-  caption_outside a = rw (e, outside s place long a)
+    pub caption_given : (x : Answer) (l : Label) (u : Unit {0}) → record_checked w ≡ Ok u → l ≡ label_of_words w → x ≡ part_or s l (part_answer 1 0 (length lent)) → x ≡ caption_outcome s w lent
+    unfolding caption_outcome
+    caption_given x l u e el ex = ex ∙ ap (λ (m : Label). caption_part s m lent) el ∙ of_good w (λ (a : Answer). a) _ u e

@@ -6,9 +6,7 @@ use Rattle.strip_records.specs.declared.kind.Kind.{Kind}
 use Rattle.strip_records.specs.declared.kind.Kind.TheVariants.{Pan1, Pic1, Txt1, Wnd1, Ali1}
 use Rattle.strip_records.specs.declared.record.Record.{Record}
 use Rattle.flat_records.specs.Records.{kind_of, record_of}
-use Rattle.flat_records.specs.Below.{Bound, span, checked_by}
-use Rattle.flat_records.specs.declared.bounds.Checked.{Checked}
-use Rattle.flat_records.specs.declared.bounds.Checked.TheVariants.{Good}
+use Rattle.flat_records.specs.Below.{Checked, good, Bound, span, checked_by}
 use Rattle.exports_answers.specs.Answers.{short_record, Returned, returned, given}
 use Rattle.exports_parts.specs.Parts.{unless_bad}
 
@@ -21,7 +19,7 @@ count_bounds Wnd1 = span 74 1 256 ∷ span 92 1 256 ∷ []
 count_bounds Ali1 = []
 
 abbrev pub counts_by : Kind → List ℕ → Checked
-counts_by k w = checked_by Good (span 0 1 5 ∷ count_bounds k) w
+counts_by k w = checked_by good (span 0 1 5 ∷ count_bounds k) w
 
 unfoldable pub counts_checked : List ℕ → Checked
 counts_checked w = counts_by (kind_of (get_or w 0 0)) w

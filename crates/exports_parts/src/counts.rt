@@ -5,34 +5,41 @@ ghost use Rattle.exports_answers.specs.Answers.{returned};
 ghost use Rattle.exports_parts.specs.Counts.{counts_by, filled_words, filled_into, filled_outcome};
 
 use exports_answers::answers;
-use exports_answers::answers::{bad_word, short_record};
+use exports_answers::answers::Fault;
 use flat::{layout, words};
-use flat_records::bounds::Checked;
+use flat_records::bounds::{BadWord, Bound};
 use flat_records::{bounds, records};
 use flat_text_box::txt1;
 use strip_records::filled;
 use strip_records::kind::Kind;
 
+const KIND: [Bound; 1] = [(layout::KIND, 1, 5)];
+
+const PICTURE: [Bound; 1] = [(layout::PICTURE_QUADS, 1, 256)];
+
+const TEXT_BOX: [Bound; 4] = [
+    (layout::TEXT_LENGTH, 1, 65_536),
+    (layout::TEXT_PRESENT, 1, 2),
+    (layout::LINES_PRESENT, 1, 2),
+    (layout::LINES_COUNT, 1, 256),
+];
+
+const WINDOW: [Bound; 2] = [
+    (layout::FRAMES_COUNT, 1, 256),
+    (layout::CONTENT_QUADS, 1, 256),
+];
+
 // The bounds of the words that count.
-fn counts_checked(w: &[u64], kind: Kind) -> Checked
+fn counts_checked(w: &[u64], kind: Kind) -> Result<(), BadWord>
     requires { 116 ≤ length w.now }
     ensures { result ≡ counts_by kind w.now }
 {
-    let c = bounds::below(Checked::Good, w, layout::KIND, 1, 5);
+    bounds::all_below(w, &KIND)?;
     match kind {
-        Kind::Pan1 => c,
-        Kind::Pic1 => bounds::below(c, w, layout::PICTURE_QUADS, 1, 256),
-        Kind::Txt1 => {
-            let c = bounds::below(c, w, layout::TEXT_LENGTH, 1, 65_536);
-            let c = bounds::below(c, w, layout::TEXT_PRESENT, 1, 2);
-            let c = bounds::below(c, w, layout::LINES_PRESENT, 1, 2);
-            bounds::below(c, w, layout::LINES_COUNT, 1, 256)
-        }
-        Kind::Wnd1 => {
-            let c = bounds::below(c, w, layout::FRAMES_COUNT, 1, 256);
-            bounds::below(c, w, layout::CONTENT_QUADS, 1, 256)
-        }
-        Kind::Ali1 => c,
+        Kind::Pan1 | Kind::Ali1 => Ok(()),
+        Kind::Pic1 => bounds::all_below(w, &PICTURE),
+        Kind::Txt1 => bounds::all_below(w, &TEXT_BOX),
+        Kind::Wnd1 => bounds::all_below(w, &WINDOW),
     }
 }
 
@@ -74,14 +81,13 @@ fn put_counts(out: &mut [u64], w: &[u64], kind: Kind) -> u64
     ensures { returned result out.new ≡ filled_into out.old (filled_words (record_by kind w.now)) }
 {
     match kind {
-        Kind::Pan1 => put(out, 0, 0, 0, 0),
+        Kind::Pan1 | Kind::Ali1 => put(out, 0, 0, 0, 0),
         Kind::Pic1 => {
             let quads = filled::quads_of(words::byte_at(w, layout::PICTURE_QUADS));
             put(out, quads, 0, 0, 0)
         }
         Kind::Txt1 => put_txt1(out, w),
         Kind::Wnd1 => put_wnd1(out, w),
-        Kind::Ali1 => put(out, 0, 0, 0, 0),
     }
 }
 
@@ -91,16 +97,11 @@ pub fn counted(words: &[u64], out: &mut [u64]) -> u64
     ensures { returned result out.new ≡ filled_outcome words.now out.old }
 {
     if words.len() < layout::RECORD_WORDS {
-        let x = short_record();
-        return answers::give(out, x);
+        return answers::give(out, answers::fault_told(Fault::ShortRecord));
     }
     let kind = records::kind_of(words[layout::KIND]);
-    let c = counts_checked(words, kind);
-    match c {
-        Checked::Bad { index } => {
-            let x = bad_word(index);
-            answers::give(out, x)
-        }
-        Checked::Good => put_counts(out, words, kind),
+    match counts_checked(words, kind) {
+        Err(BadWord { index }) => answers::give(out, answers::fault_told(Fault::BadWord { index })),
+        Ok(()) => put_counts(out, words, kind),
     }
 }

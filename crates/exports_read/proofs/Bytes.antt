@@ -7,12 +7,12 @@ use mathlib.Core.List.{List, [], ◌∷◌, ◌++◌, reverse_aux}
 use lib.ListN.{length, take, drop, replicate, length-append, length-take, length-drop, length-reverse, length-replicate}
 use lib.Dec.{leb, ltb, eqb}
 use Rattle.core_read.specs.Bytes.{little, ordered, spelled, part, number_at}
-use Rattle.core_read.specs.Taken.{Taken, number_taken, up_to_nul, string_taken, over}
+use Rattle.core_read.specs.Taken.{number_taken, up_to_nul, string_taken, over, Place}
+use Rattle.core_read.specs.declared.cursor.Taken.{Taken}
 use Rattle.core_read.specs.declared.cursor.ByteOrder.{ByteOrder}
 use Rattle.core_read.specs.declared.cursor.ByteOrder.TheVariants.{Little, Big}
-use Rattle.core_read.specs.declared.cursor.Place.{Place}
-use Rattle.core_read.specs.declared.cursor.Place.TheVariants.{At, Refused}
 use Rattle.strip_records.specs.Typed.{Below}
+use Rattle.std.specs.Prelude.{Err, Ok}
 
 -- what holds on either side of a test
 pub either : {A : Type 0} (P : A → Type 0) (t : Bool) (x y : A) → P x → P y → P (cond t x y)
@@ -86,8 +86,8 @@ nothing_below w = little_below w [] (omega arith) tt
 
 pub taken_below : (order : ByteOrder) (w : ℕ) (s : List ℕ) (p : Place) → Below 256 s → (number_taken order w s p).value < 256 ^ w
 unfolding number_taken
-taken_below order w s (At c) h = either (λ (t : Taken ℕ). t.value < 256 ^ w) (leb (c.pos + w) (length s)) _ _ (number_below order w s c.pos h) (nothing_below w)
-taken_below order w s (Refused why) h = nothing_below w
+taken_below order w s (Ok c) h = either (λ (t : Taken ℕ). t.value < 256 ^ w) (leb (c.pos + w) (length s)) _ _ (number_below order w s c.pos h) (nothing_below w)
+taken_below order w s (Err why) h = nothing_below w
 
 -- ---- strings
 
@@ -112,13 +112,13 @@ no_text w = record { bytes = tt; few = omega arith }
 
 pub taken_text : (w : ℕ) (s : List ℕ) (p : Place) → Below 256 s → Text w (string_taken w s p).value
 unfolding string_taken
-taken_text w s (At c) h =
+taken_text w s (Ok c) h =
     let found : Text w (up_to_nul (part w s c.pos)) = record {
       bytes = up_below (part w s c.pos) (below_part w s c.pos h);
       few = omega (arith, up_long (part w s c.pos), part_long w s c.pos);
     } in
     either (λ (t : Taken (List ℕ)). Text w t.value) (ltb c.pos (length s)) _ _ found (no_text w)
-taken_text w s (Refused why) h = no_text w
+taken_text w s (Err why) h = no_text w
 
 -- laid over as many zeros: bytes, and of that width
 pub text_below : (w : ℕ) (l : List ℕ) → Text w l → Below 256 (over l (replicate w 0))

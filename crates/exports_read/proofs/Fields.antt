@@ -9,9 +9,9 @@ use mir.Syntax.{w16}
 use mir.Val.{SFits}
 use Rattle.core_read.proofs.TwosComplement.{signed_fits}
 use Rattle.core_read.specs.Bytes.{signed_of}
-use Rattle.core_read.specs.Taken.{number_taken, string24_taken, string8_taken}
+use Rattle.core_read.specs.Taken.{number_taken, fixed_string_taken, Place}
+use Rattle.core_read.specs.declared.cursor.Taken.{Taken}
 use Rattle.core_read.specs.declared.cursor.ByteOrder.{ByteOrder}
-use Rattle.core_read.specs.declared.cursor.Place.{Place}
 use Rattle.flags.specs.Fields.{flag_ex_of}
 use Rattle.flags.specs.declared.text.FontMeasureKind.{FontMeasureKind}
 use Rattle.flags.specs.declared.text.FontMeasureKind.TheVariants.{Size, Scale}
@@ -21,9 +21,8 @@ use Rattle.ui2d.specs.declared.Vector2f.{Vector2f}
 use Rattle.pane_read.specs.Pane.{pane_taken}
 use Rattle.pane_read.specs.Typed.{TypedPane}
 use Rattle.pane_read.specs.declared.Pane.{Pane}
-use Rattle.picture_fields.specs.Picture.{shape_taken, picture_taken}
+use Rattle.picture_fields.specs.Picture.{shape_taken, picture_taken, ShapeIndex}
 use Rattle.picture_fields.specs.Typed.{TypedPicture, TypedShape}
-use Rattle.picture_fields.specs.declared.ShapeTaken.{ShapeTaken}
 use Rattle.text_box_fixed.specs.Fixed.{head_taken, font_taken, shadow_taken}
 use Rattle.text_box_parts.specs.Parts.{lines_at, lines_taken}
 use Rattle.text_box_parts.specs.declared.parts.LinesTaken.{LinesTaken}
@@ -86,7 +85,7 @@ module _ (order : ByteOrder) (s : List ℕ) (h : Below 256 s) where
   reserve_typed raw = omega arith
 
   pub base_typed : (p : Place) → TypedBase (pane_taken order s p).pane
-  unfolding pane_taken string24_taken string8_taken
+  unfolding pane_taken fixed_string_taken
   base_typed p = record {
     pane = record {
       alpha = taken_below order 1 s _ h;
@@ -106,7 +105,7 @@ module _ (order : ByteOrder) (s : List ℕ) (h : Below 256 s) where
 
   shape_typed : (p : Place) (byte : ℕ) → TypedShape (shape_taken order s p byte).value
   unfolding shape_taken
-  shape_typed p byte = either (λ (t : ShapeTaken). TypedShape t.value) (eqb byte 0) _ _ tt (taken_below order 4 s p h)
+  shape_typed p byte = either (λ (t : Taken ShapeIndex). TypedShape t.value) (eqb byte 0) _ _ tt (taken_below order 4 s p h)
 
   pub picture_typed : (p : Place) → TypedPicture (picture_taken order s p).picture
   unfolding picture_taken

@@ -8,11 +8,7 @@ use mir.Syntax.{w16}
 use mir.Val.{SFits}
 use borrow.Author.Rules.{sfits_of}
 use Rattle.core_read.specs.declared.cursor.ByteOrder.{ByteOrder}
-use Rattle.core_read.specs.declared.cursor.Place.{Place}
-use Rattle.core_read.specs.declared.cursor.Place.TheVariants.{At, Refused}
-use Rattle.core_checks.specs.Checks.{unless_refused}
-use Rattle.core_checks.specs.declared.checks.Extent.{Extent}
-use Rattle.core_checks.specs.declared.checks.Extent.TheVariants.{Buffer}
+use Rattle.core_checks.specs.Checks.{unless_refused, Extent}
 use Rattle.flags.specs.Fields.{flag_ex_of}
 use Rattle.ui2d.specs.Typed.{TypedColor}
 use Rattle.pane_read.specs.Pane.{blank_pane}
@@ -35,6 +31,8 @@ use Rattle.strip_kinds.specs.Body.{body_read, body_parsed}
 use Rattle.flat_records.specs.Typed.{TypedWords, OthersBlank}
 use Rattle.exports_read.proofs.Bytes.{below_zeros}
 use Rattle.exports_read.proofs.Fields.{TypedBase, TypedTexts, TypedFrames, base_typed, picture_typed, text_box_typed, window_typed, alignment_typed}
+use Rattle.core_read.specs.Taken.{Place}
+use Rattle.std.specs.Prelude.{Err, None, Ok}
 
 pub record Given (r : Record) : Type 0 where
   pub typed : TypedWords r
@@ -140,8 +138,8 @@ blank_given = record { typed = whole_typed _ blank_base blank_picture_lem blank_
 
 unless : {A : Type 0} (P : A → Type 0) (q : Place) (x y : A) → P x → P y → P (unless_refused q x y)
 unfolding unless_refused
-unless P (At c) x y h k = k
-unless P (Refused why) x y h k = h
+unless P (Ok c) x y h k = k
+unless P (Err why) x y h k = h
 
 module _ (order : ByteOrder) (s : List ℕ) (h : Below 256 s) (p : Place) (body : ℕ) (x : Extent) where
   pane_read_lem : TypedBase (pane_read order s p body x).pane
@@ -192,8 +190,8 @@ body_given order Ali1 s p body x h = record { typed = whole_typed _ (alignment_b
 
 pub parsed_given : (order : ByteOrder) (k : Kind) (s : List ℕ) (body : ℕ) (l : Lists) → Below 256 s → Given (body_parsed order k s body l).«record»
 unfolding body_parsed body_read pane_parsed picture_parsed window_parsed alignment_parsed
-parsed_given order Pan1 s body l h = body_given order Pan1 s _ body Buffer h
-parsed_given order Pic1 s body l h = body_given order Pic1 s _ body Buffer h
-parsed_given order Txt1 s body l h = body_given order Txt1 s _ body Buffer h
-parsed_given order Wnd1 s body l h = body_given order Wnd1 s _ body Buffer h
-parsed_given order Ali1 s body l h = body_given order Ali1 s _ body Buffer h
+parsed_given order Pan1 s body l h = body_given order Pan1 s _ body None h
+parsed_given order Pic1 s body l h = body_given order Pic1 s _ body None h
+parsed_given order Txt1 s body l h = body_given order Txt1 s _ body None h
+parsed_given order Wnd1 s body l h = body_given order Wnd1 s _ body None h
+parsed_given order Ali1 s body l h = body_given order Ali1 s _ body None h

@@ -1,5 +1,5 @@
 -- THE READ CALLS: an answer, with the record's words and the lists after it.
-use Rattle.std.specs.Prelude.{ℕ, cond, List, length, ltb, leb}
+use Rattle.std.specs.Prelude.{ℕ, cond, List, length, ltb, leb, Err, Ok}
 use Rattle.core_read.specs.Bytes.{splice}
 use Rattle.core_read.specs.declared.cursor.ByteOrder.{ByteOrder}
 use Rattle.strip_records.specs.Whole.{Lists}
@@ -8,12 +8,12 @@ use Rattle.strip_read.specs.Read.{finished, read_section, lists_after}
 use Rattle.strip_records.specs.declared.kind.Kind.{Kind}
 use Rattle.strip_records.specs.declared.record.Record.{Record}
 use Rattle.strip_kinds.specs.declared.body.BodyRead.{BodyRead}
-use Rattle.strip_header.specs.declared.Section.{Section}
 use Rattle.strip_header.specs.declared.Section.TheVariants as Sections
 use Rattle.strip_read.specs.declared.read.SectionRead.{SectionRead}
 use Rattle.flat_records.specs.Records.{kind_of, record_words}
 use Rattle.exports_answers.specs.Answers.{short_record, bad_word, of_order, section_answer}
 use Rattle.exports_answers.specs.declared.answers.Answer.{Answer}
+use Rattle.strip_header.specs.Header.{SectionAnswer}
 
 -- an answer, with the record's words and the lists after it
 pub record ReadOutcome : Type 0 where
@@ -25,11 +25,11 @@ abbrev pub read_outcome : Answer → List ℕ → Lists → ReadOutcome
 read_outcome x w l = record { answer = x; words = w; lists = l }
 
 -- the words of a pane stand at the front; every other answer leaves them
-abbrev pub words_after : Section → Record → List ℕ → List ℕ
-words_after Sections.End r w = w
-words_after (Sections.Passed next) r w = w
-words_after (Sections.Pane end next reach) r w = splice w 0 (record_words r)
-words_after (Sections.Refused why) r w = w
+abbrev pub words_after : SectionAnswer → Record → List ℕ → List ℕ
+words_after (Ok Sections.End) r w = w
+words_after (Ok (Sections.Passed next)) r w = w
+words_after (Ok (Sections.Pane end next reach)) r w = splice w 0 (record_words r)
+words_after (Err why) r w = w
 
 unfoldable pub delivered : SectionRead → List ℕ → Lists → ReadOutcome
 delivered r w l = read_outcome (section_answer r.answer) (words_after r.answer r.«record» w) l

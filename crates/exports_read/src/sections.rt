@@ -7,14 +7,16 @@ ghost use Rattle.strip_records.specs.Whole.{Lists, lists};
 ghost use Rattle.strip_kinds.specs.Body.{body_lists};
 ghost use Rattle.strip_read.specs.Read.{read_body};
 ghost use Rattle.strip_records.specs.Whole.{Full};
+ghost use Rattle.exports_answers.specs.Answers.{section_answer};
 ghost use Rattle.exports_read.specs.Outcomes.{read_outcome, delivered};
 
-use crate::deliver::{deliver_ali1, deliver_pan1, deliver_pic1, deliver_txt1, deliver_wnd1};
-use core_checks::checks::Extent;
+use crate::deliver::deliver;
 use core_read::cursor::{ByteOrder, Place};
-use exports_answers::answers::Answer;
+use core_read::error::Refusal;
+use strip_header::Section;
 use strip_records::kind::Kind;
 
+// One function a kind, no trait: each lends other lists, so a trait would name four lists for every kind.
 fn read_pan1(
     order: ByteOrder,
     data: &[u8],
@@ -22,15 +24,15 @@ fn read_pan1(
     body: usize,
     next: usize,
     words: &mut [u64],
-) -> Answer
+) -> Result<Section, Refusal>
     requires { (body < 2 ^ 32) × (116 ≤ length words.old) }
-    ensures { (l : Lists) → read_outcome result words.new l ≡ delivered (read_body order Kind.Pan1 «data».now p body next) words.old l }
+    ensures { (l : Lists) → read_outcome (section_answer result) words.new l ≡ delivered (read_body order Kind.Pan1 «data».now p body next) words.old l }
 {
-    let extent = Extent::Section { end: next };
+    let extent = Some(next);
     let read = pane::body::read(order, data, p, body, extent);
     let answer = read.answer;
     let base = read.pane;
-    deliver_pan1(words, answer, next, base)
+    deliver(words, answer, next, base, ())
 }
 
 fn read_pic1(
@@ -41,17 +43,17 @@ fn read_pic1(
     next: usize,
     quads: &mut [u32],
     words: &mut [u64],
-) -> Answer
+) -> Result<Section, Refusal>
     requires { (body < 2 ^ 32) × (2040 ≤ length quads.old) × (116 ≤ length words.old) }
-    ensures l_after { (l : Lists) → read_outcome result words.new l ≡ delivered (read_body order Kind.Pic1 «data».now p body next) words.old l }
-    ensures quads_after { quads.new ≡ quads_read order «data».now p body (Extent.Section next) quads.old }
+    ensures l_after { (l : Lists) → read_outcome (section_answer result) words.new l ≡ delivered (read_body order Kind.Pic1 «data».now p body next) words.old l }
+    ensures quads_after { quads.new ≡ quads_read order «data».now p body (Some next) quads.old }
 {
-    let extent = Extent::Section { end: next };
+    let extent = Some(next);
     let read = picture::body::read(order, data, p, body, extent, quads);
     let answer = read.answer;
     let base = read.base;
     let own = read.picture;
-    deliver_pic1(words, answer, next, base, own)
+    deliver(words, answer, next, base, own)
 }
 
 fn read_txt1(
@@ -63,17 +65,17 @@ fn read_txt1(
     units: &mut [u16],
     lines: &mut [u32],
     words: &mut [u64],
-) -> Answer
+) -> Result<Section, Refusal>
     requires { (8 ≤ body) × (body < 2 ^ 32) × (32767 ≤ length units.old) × (510 ≤ length lines.old) × (116 ≤ length words.old) }
-    ensures l_after { (l : Lists) → read_outcome result words.new l ≡ delivered (read_body order Kind.Txt1 «data».now p body next) words.old l }
-    ensures units_after { (units.new ≡ units_after order «data».now p body (Extent.Section next) units.old) × (lines.new ≡ lines_after order «data».now p body (Extent.Section next) lines.old) }
+    ensures l_after { (l : Lists) → read_outcome (section_answer result) words.new l ≡ delivered (read_body order Kind.Txt1 «data».now p body next) words.old l }
+    ensures units_after { (units.new ≡ units_after order «data».now p body (Some next) units.old) × (lines.new ≡ lines_after order «data».now p body (Some next) lines.old) }
 {
-    let extent = Extent::Section { end: next };
+    let extent = Some(next);
     let read = text_box::body::read(order, data, p, body, extent, units, lines);
     let answer = read.answer;
     let base = read.base;
     let own = read.text_box;
-    deliver_txt1(words, answer, next, base, own)
+    deliver(words, answer, next, base, own)
 }
 
 fn read_wnd1(
@@ -85,17 +87,17 @@ fn read_wnd1(
     quads: &mut [u32],
     frames: &mut [u16],
     words: &mut [u64],
-) -> Answer
+) -> Result<Section, Refusal>
     requires { (8 ≤ body) × (body < 2 ^ 32) × (2040 ≤ length quads.old) × (510 ≤ length frames.old) × (116 ≤ length words.old) }
-    ensures l_after { (l : Lists) → read_outcome result words.new l ≡ delivered (read_body order Kind.Wnd1 «data».now p body next) words.old l }
-    ensures quads_after { (quads.new ≡ read_quads order «data».now p body (Extent.Section next) quads.old) × (frames.new ≡ read_frames order «data».now p body (Extent.Section next) frames.old) }
+    ensures l_after { (l : Lists) → read_outcome (section_answer result) words.new l ≡ delivered (read_body order Kind.Wnd1 «data».now p body next) words.old l }
+    ensures quads_after { (quads.new ≡ read_quads order «data».now p body (Some next) quads.old) × (frames.new ≡ read_frames order «data».now p body (Some next) frames.old) }
 {
-    let extent = Extent::Section { end: next };
+    let extent = Some(next);
     let read = window::body::read(order, data, p, body, extent, quads, frames);
     let answer = read.answer;
     let base = read.base;
     let own = read.window;
-    deliver_wnd1(words, answer, next, base, own)
+    deliver(words, answer, next, base, own)
 }
 
 fn read_ali1(
@@ -105,16 +107,16 @@ fn read_ali1(
     body: usize,
     next: usize,
     words: &mut [u64],
-) -> Answer
+) -> Result<Section, Refusal>
     requires { (body < 2 ^ 32) × (116 ≤ length words.old) }
-    ensures { (l : Lists) → read_outcome result words.new l ≡ delivered (read_body order Kind.Ali1 «data».now p body next) words.old l }
+    ensures { (l : Lists) → read_outcome (section_answer result) words.new l ≡ delivered (read_body order Kind.Ali1 «data».now p body next) words.old l }
 {
-    let extent = Extent::Section { end: next };
+    let extent = Some(next);
     let read = alignment::body::read(order, data, p, body, extent);
     let answer = read.answer;
     let base = read.base;
     let own = read.alignment;
-    deliver_ali1(words, answer, next, base, own)
+    deliver(words, answer, next, base, own)
 }
 
 pub(crate) fn read_kind(
@@ -129,9 +131,9 @@ pub(crate) fn read_kind(
     lines: &mut [u32],
     frames: &mut [u16],
     words: &mut [u64],
-) -> Answer
+) -> Result<Section, Refusal>
     requires { (8 ≤ body) × (body < 2 ^ 32) × Full (lists quads.old units.old lines.old frames.old) × (116 ≤ length words.old) }
-    ensures { read_outcome result words.new (lists quads.new units.new lines.new frames.new) ≡ delivered (read_body order kind «data».now p body next) words.old (body_lists order kind «data».now p body (Extent.Section next) (lists quads.old units.old lines.old frames.old)) }
+    ensures { read_outcome (section_answer result) words.new (lists quads.new units.new lines.new frames.new) ≡ delivered (read_body order kind «data».now p body next) words.old (body_lists order kind «data».now p body (Some next) (lists quads.old units.old lines.old frames.old)) }
 {
     match kind {
         Kind::Pan1 => read_pan1(order, data, p, body, next, words),

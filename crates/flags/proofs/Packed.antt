@@ -1,11 +1,15 @@
 -- One law for every packed number: its digits come back from their bits, and it fits in the bits of all of them.
 use mathlib.Core.Path.{◌≡◌, refl, ap, ◌∙◌}
-use Prim.Native.Nat.{ℕ, zero, suc, ◌+◌, ◌*◌, ◌/◌, ◌%◌, ◌^◌, ◌<◌}
+use Prim.Native.Nat.{ℕ, zero, suc, ◌+◌, ◌*◌, ◌/◌, ◌%◌, ◌^◌, ◌<◌, ◌≤◌}
 use native.Mathlib.Nat.{div-one}
 use native.Mathlib.Omega.{arith}
 use mathlib.Core.Bool.{Bool, true, false}
-use mathlib.Core.List.{List, [], ◌∷◌, map}
-use lib.ListN.{get_or}
+use mathlib.Core.List.{List, [], ◌∷◌, ◌++◌, map, reverse}
+use mir.Val.{bool_byte}
+use lib.ListN.{length, get_or}
+use Rattle.std.proofs.Math.Pow.{pow_mono}
+use Rattle.std.proofs.lemmas.List.{map-append, reverse-append, length-map, length-reverse}
+use denote.Ref.{Bor}
 use lib.Arith.{digits_lt}
 use lib.Pow.{pow-add, shr-shr, low, high}
 use Rattle.flags.specs.Packed.{flag_of, flag_number, Digit, digit, flag, pack}
@@ -54,6 +58,15 @@ pub flag_back : (b : Bool) → flag_of (flag_number b) ≡ b
 flag_back true = refl
 flag_back false = refl
 
+-- what the language makes of a bool is its flag's number
+pub flag_from : (b : Bool) → bool_byte b ≡ flag_number b
+flag_from true = refl
+flag_from false = refl
+
+pub byte_le : (b : Bool) → bool_byte b ≤ 1
+byte_le true = omega arith
+byte_le false = omega arith
+
 pub flag_fit : (b : Bool) → flag_number b < 2 ^ 1
 flag_fit true = omega arith
 flag_fit false = omega arith
@@ -70,3 +83,29 @@ flag_value (b ∷ bs) (suc k) = flag_value bs k
 -- each flag of a number of flags comes back
 pub flags_back : (bs : List Bool) (k : ℕ) → flag_of (unpack (map flag bs) k (pack (map flag bs))) ≡ get_or bs k false
 flags_back bs k = field_back flag_of (map flag bs) (flags_fit bs) k (flag_value bs k)
+
+size_flags : (bs : List Bool) → size (map flag bs) ≡ length bs
+size_flags [] = refl
+size_flags (b ∷ bs) = omega (arith, size_flags bs)
+
+-- k flags fit in k bits
+pub flags_below : (bs : List Bool) (k : ℕ) → length bs ≤ k → pack (map flag bs) < 2 ^ k
+flags_below bs k h =
+    let e = size_flags bs in
+    omega (arith, pack_fit (map flag bs) (flags_fit bs), pow_mono {i = size (map flag bs)} {j = k} (omega arith))
+
+-- ---- flags put together from the last on
+
+-- the flags of a row that was taken from its end
+abbrev pub flags_taken : List (Bor Bool) → List Bool
+flags_taken ys = reverse (map (λ (b : Bor Bool). b.now) ys)
+
+pub taken_below : (ys : List (Bor Bool)) → length ys < 16 → pack (map flag (flags_taken ys)) < 2 ^ 15
+taken_below ys h =
+    flags_below (flags_taken ys) 15 (omega (arith, length-reverse (map (λ (b : Bor Bool). b.now) ys), length-map ys (λ (b : Bor Bool). b.now)))
+
+pub taken_more : (ys : List (Bor Bool)) (b : Bor Bool) → pack (map flag (flags_taken (ys ++ b ∷ []))) ≡ 2 * pack (map flag (flags_taken ys)) + bool_byte b.now
+unfolding pack
+taken_more ys b =
+    rw (map-append (λ (b : Bor Bool). b.now) ys (b ∷ []), reverse-append (map (λ (b : Bor Bool). b.now) ys) (b.now ∷ []))
+    (omega (arith, flag_from b.now))

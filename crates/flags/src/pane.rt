@@ -2,10 +2,10 @@
 ghost use Rattle.std.specs.Prelude.{◌≡◌};
 ghost use Rattle.flags.specs.Fields.{pane_flags_of, pane_flags_number, flag_ex_of, flag_ex_number};
 
-use crate::bits::{bit, eight};
+use crate::bits::packed;
 
 // A byte: one bit each in field order.
-#[derive(Clone, Copy)]
+#[derive(Clone, Copy, Debug, PartialEq, Eq)]
 pub struct PaneFlags {
     pub is_visible: bool,
     pub influenced_alpha: bool,
@@ -17,10 +17,10 @@ pub struct PaneFlags {
     pub is_constant_buffer_ready: bool,
 }
 
-impl PaneFlags {
-    pub fn decode(raw: u8) -> PaneFlags
-        ensures { result ≡ pane_flags_of raw }
-    {
+impl From<u8> for PaneFlags {
+    ghost from_gives = { λ raw flags. flags ≡ pane_flags_of raw };
+
+    fn from(raw: u8) -> PaneFlags {
         PaneFlags {
             is_visible: raw % 2 == 1,
             influenced_alpha: raw / 2 % 2 == 1,
@@ -32,25 +32,27 @@ impl PaneFlags {
             is_constant_buffer_ready: raw / 128 % 2 == 1,
         }
     }
+}
 
-    pub fn encode(self) -> u8
-        ensures { result ≡ pane_flags_number self }
-    {
-        eight(
-            self.is_visible,
-            self.influenced_alpha,
-            self.location_adjust,
-            self.user_allocated,
-            self.is_global_matrix_dirty,
-            self.is_srt_matrix_user,
-            self.is_global_matrix_user,
-            self.is_constant_buffer_ready,
-        )
+impl From<PaneFlags> for u8 {
+    ghost from_gives = { λ flags raw. raw ≡ pane_flags_number flags };
+
+    fn from(flags: PaneFlags) -> u8 {
+        packed(&[
+            flags.is_visible,
+            flags.influenced_alpha,
+            flags.location_adjust,
+            flags.user_allocated,
+            flags.is_global_matrix_dirty,
+            flags.is_srt_matrix_user,
+            flags.is_global_matrix_user,
+            flags.is_constant_buffer_ready,
+        ]) as u8
     }
 }
 
 // A byte: three bits, then reserve0 in five.
-#[derive(Clone, Copy)]
+#[derive(Clone, Copy, Debug, PartialEq, Eq)]
 pub struct PaneFlagsEx {
     pub is_no_scale_by_parts: bool,
     pub is_scale_size_by_parts_root: bool,
@@ -58,10 +60,10 @@ pub struct PaneFlagsEx {
     pub reserve0: u8,
 }
 
-impl PaneFlagsEx {
-    pub fn decode(raw: u8) -> PaneFlagsEx
-        ensures { result ≡ flag_ex_of raw }
-    {
+impl From<u8> for PaneFlagsEx {
+    ghost from_gives = { λ raw flags. flags ≡ flag_ex_of raw };
+
+    fn from(raw: u8) -> PaneFlagsEx {
         PaneFlagsEx {
             is_no_scale_by_parts: raw % 2 == 1,
             is_scale_size_by_parts_root: raw / 2 % 2 == 1,
@@ -69,14 +71,17 @@ impl PaneFlagsEx {
             reserve0: raw / 8,
         }
     }
+}
+
+impl From<PaneFlagsEx> for u8 {
+    ghost from_gives = { λ flags raw. raw ≡ flag_ex_number flags };
 
     // Of a reserve0 above 31 the low five bits are written.
-    pub fn encode(self) -> u8
-        ensures { result ≡ flag_ex_number self }
-    {
-        bit(self.is_no_scale_by_parts)
-            + 2 * bit(self.is_scale_size_by_parts_root)
-            + 4 * bit(self.is_ext_user_data)
-            + 8 * (self.reserve0 % 32)
+    #[tactic(auto, using(crate::proofs::Packed::flag_from), unfolding(crate::specs::Fields::flag_ex_number, crate::specs::Packed::pack))]
+    fn from(flags: PaneFlagsEx) -> u8 {
+        u8::from(flags.is_no_scale_by_parts)
+            + 2 * u8::from(flags.is_scale_size_by_parts_root)
+            + 4 * u8::from(flags.is_ext_user_data)
+            + 8 * (flags.reserve0 % 32)
     }
 }

@@ -3,89 +3,70 @@ ghost use Rattle.std.specs.Prelude.{◌≡◌};
 ghost use Rattle.flags.specs.Enums.{window_kind_of, window_kind_number, flip_of, flip_number};
 ghost use Rattle.flags.specs.Fields.{window_flags_of, window_flags_number};
 
-use crate::bits::bit;
-
-#[derive(Clone, Copy)]
+#[derive(Clone, Copy, Debug, PartialEq, Eq)]
 pub enum WindowKind {
-    Around,
-    Horizontal,
-    HorizontalNoContent,
+    Around = 0,
+    Horizontal = 1,
+    HorizontalNoContent = 2,
 }
 
-impl WindowKind {
+impl From<u8> for WindowKind {
+    ghost from_gives = { λ n x. x ≡ window_kind_of n };
+
     // An unknown number reads as the first.
-    pub fn decode(n: u8) -> WindowKind
-        ensures { result ≡ window_kind_of n }
-    {
-        if n == 1 {
-            return WindowKind::Horizontal;
-        }
-        if n == 2 {
-            return WindowKind::HorizontalNoContent;
-        }
-        WindowKind::Around
-    }
-
-    pub fn number(self) -> u8
-        ensures { result ≡ window_kind_number self }
-    {
-        match self {
-            WindowKind::Around => 0,
-            WindowKind::Horizontal => 1,
-            WindowKind::HorizontalNoContent => 2,
+    fn from(n: u8) -> WindowKind {
+        match n {
+            1 => WindowKind::Horizontal,
+            2 => WindowKind::HorizontalNoContent,
+            _ => WindowKind::Around,
         }
     }
 }
 
-#[derive(Clone, Copy)]
+impl From<WindowKind> for u8 {
+    ghost from_gives = { λ x n. n ≡ window_kind_number x };
+
+    fn from(x: WindowKind) -> u8 {
+        x as u8
+    }
+}
+
+#[derive(Clone, Copy, Debug, PartialEq, Eq)]
 pub enum TextureFlip {
-    None,
-    FlipU,
-    FlipV,
-    Rotate90,
-    Rotate180,
-    Rotate270,
+    None = 0,
+    FlipU = 1,
+    FlipV = 2,
+    Rotate90 = 3,
+    Rotate180 = 4,
+    Rotate270 = 5,
 }
 
-impl TextureFlip {
-    // An unknown number reads as the first.
-    pub fn decode(n: u8) -> TextureFlip
-        ensures { result ≡ flip_of n }
-    {
-        if n == 1 {
-            return TextureFlip::FlipU;
-        }
-        if n == 2 {
-            return TextureFlip::FlipV;
-        }
-        if n == 3 {
-            return TextureFlip::Rotate90;
-        }
-        if n == 4 {
-            return TextureFlip::Rotate180;
-        }
-        if n == 5 {
-            return TextureFlip::Rotate270;
-        }
-        TextureFlip::None
-    }
+impl From<u8> for TextureFlip {
+    ghost from_gives = { λ n x. x ≡ flip_of n };
 
-    pub fn number(self) -> u8
-        ensures { result ≡ flip_number self }
-    {
-        match self {
-            TextureFlip::None => 0,
-            TextureFlip::FlipU => 1,
-            TextureFlip::FlipV => 2,
-            TextureFlip::Rotate90 => 3,
-            TextureFlip::Rotate180 => 4,
-            TextureFlip::Rotate270 => 5,
+    // An unknown number reads as the first.
+    fn from(n: u8) -> TextureFlip {
+        match n {
+            1 => TextureFlip::FlipU,
+            2 => TextureFlip::FlipV,
+            3 => TextureFlip::Rotate90,
+            4 => TextureFlip::Rotate180,
+            5 => TextureFlip::Rotate270,
+            _ => TextureFlip::None,
         }
+    }
+}
+
+impl From<TextureFlip> for u8 {
+    ghost from_gives = { λ x n. n ≡ flip_number x };
+
+    fn from(x: TextureFlip) -> u8 {
+        x as u8
     }
 }
 
 // A byte: bits 0, 1, kind 2-3, not-draw 4, the rest dropped.
-#[derive(Clone, Copy)]
+#[derive(Clone, Copy, Debug, PartialEq, Eq)]
 pub struct WindowFlags {
     pub use_left_corner_material: bool,
     pub use_vertex_color_for_all_window: bool,
@@ -93,26 +74,27 @@ pub struct WindowFlags {
     pub not_draw_content: bool,
 }
 
-impl WindowFlags {
-    pub fn decode(raw: u8) -> WindowFlags
-        ensures { result ≡ window_flags_of raw }
-    {
-        let window_kind = WindowKind::decode(raw / 4 % 4);
+impl From<u8> for WindowFlags {
+    ghost from_gives = { λ raw flags. flags ≡ window_flags_of raw };
+
+    fn from(raw: u8) -> WindowFlags {
         WindowFlags {
             use_left_corner_material: raw % 2 == 1,
             use_vertex_color_for_all_window: raw / 2 % 2 == 1,
-            window_kind,
+            window_kind: WindowKind::from(raw / 4 % 4),
             not_draw_content: raw / 16 % 2 == 1,
         }
     }
+}
 
-    pub fn encode(self) -> u8
-        ensures { result ≡ window_flags_number self }
-    {
-        let window_kind = self.window_kind;
-        bit(self.use_left_corner_material)
-            + 2 * bit(self.use_vertex_color_for_all_window)
-            + 4 * window_kind.number()
-            + 16 * bit(self.not_draw_content)
+impl From<WindowFlags> for u8 {
+    ghost from_gives = { λ flags raw. raw ≡ window_flags_number flags };
+
+    #[tactic(auto, using(crate::proofs::Enums::window_kind_le, crate::proofs::Packed::flag_from), unfolding(crate::specs::Fields::window_flags_number, crate::specs::Packed::pack))]
+    fn from(flags: WindowFlags) -> u8 {
+        u8::from(flags.use_left_corner_material)
+            + 2 * u8::from(flags.use_vertex_color_for_all_window)
+            + 4 * u8::from(flags.window_kind)
+            + 16 * u8::from(flags.not_draw_content)
     }
 }

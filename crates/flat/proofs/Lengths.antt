@@ -4,15 +4,14 @@ use Prim.Native.Nat.{ℕ, ◌+◌}
 use native.Mathlib.Omega.{arith}
 use mathlib.Core.List.{List, ◌∷◌, ◌++◌}
 use lib.ListN.{length, length-append}
-use Rattle.core_read.specs.declared.text.FixedString24.{FixedString24}
-use Rattle.core_read.specs.declared.text.FixedString8.{FixedString8}
+use Rattle.core_read.specs.declared.text.FixedString.{FixedString}
 use Rattle.pane_read.specs.declared.Pane.{Pane}
 use Rattle.flat.specs.Base.{name_words, user_words, transform_words, base_words}
 
-pub name_end : (n : FixedString24) → length n.bytes ≡ 24 → 18 + length (name_words n) ≡ 43
+pub name_end : (n : FixedString 24) → length n.bytes ≡ 24 → 18 + length (name_words n) ≡ 43
 name_end n h = omega (arith, h)
 
-pub user_end : (n : FixedString8) → length n.bytes ≡ 8 → 43 + length (user_words n) ≡ 52
+pub user_end : (n : FixedString 8) → length n.bytes ≡ 8 → 43 + length (user_words n) ≡ 52
 user_end n h = omega (arith, h)
 
 after_user : (u t : List ℕ) → length u ≡ 8 → length t ≡ 10 → length (u ++ t) ≡ 18

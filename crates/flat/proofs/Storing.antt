@@ -5,10 +5,12 @@ use native.Mathlib.Nat.{add-zero}
 use native.Mathlib.Omega.{arith}
 use native.Mathlib.Numerals.{add-one}
 use mathlib.Core.List.{List, [], ◌∷◌, ◌++◌}
-use lib.ListN.{length, take, set, get_or, length-set}
-use lib.Seq.{take_all, take-suc-set, length-take-le}
+use lib.ListN.{length, take, drop, set, get_or, length-set}
+use lib.Seq.{drop-drop, take_all, take-suc-set, length-take-le}
 use Rattle.core_read.specs.Bytes.{splice}
-use Rattle.core_write.proofs.Puts.{splice_append, take_more}
+use Rattle.core_write.proofs.Puts.{length_splice, splice_append, splice_cut, take_more}
+use Rattle.std.proofs.Common.{append_assoc}
+use borrow.Rule.Slice.PartMut.{put_mid}
 use Rattle.flat.specs.Words.{Stored, byte_at, bytes_at}
 
 -- words stored after others are the two together
@@ -27,6 +29,14 @@ stored_nothing o p = record { long = refl; words = refl }
 pub stored_one : (o : List ℕ) (p v : ℕ) → Stored o p (v ∷ []) (set o p v)
 unfolding splice
 stored_one o p v = record { long = length-set o p v; words = refl }
+
+-- the words of a slice, put where a part of o stood
+pub stored_run : (o : List ℕ) (p : ℕ) (e : List ℕ) {m : List ℕ} → p + length e ≤ length o → m ≡ e → Stored o p e (put_mid p (p + length e - p) o m)
+stored_run o p e {m} h k =
+    let n : p + length e - p ≡ length e = omega arith in
+    let cut : put_mid p (p + length e - p) o m ≡ splice o p e =
+    rw (n, k) (ap (λ (l : List ℕ). take p o ++ (e ++ l)) (drop-drop (length e) p o) ∙ sym (splice_cut o p e h ∙ append_assoc (take p o) e (drop (p + length e) o))) in
+    record { long = ap length cut ∙ length_splice o p e; words = cut }
 
 -- a kind's own words after its number and the base
 pub stored_own : {o o₁ o₂ : List ℕ} {k : ℕ} {b e : List ℕ} → Stored o 0 ((k ∷ []) ++ b) o₁ → length b ≡ 61 → Stored o₁ 62 e o₂ → Stored o 0 ((k ∷ []) ++ (b ++ e)) o₂

@@ -1,7 +1,6 @@
 -- The words of the base, and the base of the words. Places are those of layout.rt.
-use Rattle.std.specs.Prelude.{ℕ, List, [], ◌∷◌, ◌++◌, get_or}
-use Rattle.core_read.specs.declared.text.FixedString24.{FixedString24}
-use Rattle.core_read.specs.declared.text.FixedString8.{FixedString8}
+use Rattle.std.specs.Prelude.{ℕ, ◌+◌, List, [], ◌∷◌, ◌++◌, get_or}
+use Rattle.core_read.specs.declared.text.FixedString.{FixedString}
 use Rattle.flags.specs.Enums.{horizontal_of, horizontal_number, vertical_of, vertical_number}
 use Rattle.flags.specs.declared.pane.PaneFlags.{PaneFlags}
 use Rattle.flags.specs.declared.pane.PaneFlagsEx.{PaneFlagsEx}
@@ -46,10 +45,10 @@ flag_ex_words alpha x =
     ∷ []
 
 -- NAME_COUNT and NAME; USER_COUNT and USER: the count, and every byte of the array
-abbrev pub name_words : FixedString24 → List ℕ
+abbrev pub name_words : FixedString 24 → List ℕ
 name_words n = (n.count ∷ []) ++ n.bytes
 
-abbrev pub user_words : FixedString8 → List ℕ
+abbrev pub user_words : FixedString 8 → List ℕ
 user_words n = (n.count ∷ []) ++ n.bytes
 
 -- TRANSLATION, ROTATION, SCALE, SIZE: the bits of each float
@@ -96,11 +95,15 @@ flag_ex_at w = record {
   reserve0 = byte_at w 17;
 }
 
-abbrev pub name_at : List ℕ → FixedString24
-name_at w = record { bytes = bytes_at w 19 24; count = get_or w 18 0 }
+-- a fixed string of n bytes: the count at i, and the bytes from the next word on
+abbrev pub string_at : (n : ℕ) → List ℕ → ℕ → FixedString n
+string_at n w i = record { bytes = bytes_at w (i + 1) n; count = get_or w i 0 }
 
-abbrev pub user_at : List ℕ → FixedString8
-user_at w = record { bytes = bytes_at w 44 8; count = get_or w 43 0 }
+abbrev pub name_at : List ℕ → FixedString 24
+name_at w = string_at 24 w 18
+
+abbrev pub user_at : List ℕ → FixedString 8
+user_at w = string_at 8 w 43
 
 unfoldable pub base_at : List ℕ → Pane
 base_at w = record {

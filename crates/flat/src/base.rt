@@ -1,10 +1,10 @@
 // The words of the base.
-ghost use Rattle.std.specs.Prelude.{◌≤◌, length, ◌≡◌};
+ghost use Rattle.std.specs.Prelude.{◌≤◌, ◌+◌, length, ◌∷◌, ◌≡◌};
 ghost use Rattle.flat.specs.Words.{Stored};
-ghost use Rattle.flat.specs.Base.{pane_flags_words, position_words, flag_ex_words, name_words, user_words, transform_words, base_words, pane_flags_at, position_at, flag_ex_at, name_at, user_at, base_at};
+ghost use Rattle.flat.specs.Base.{pane_flags_words, position_words, flag_ex_words, transform_words, base_words, pane_flags_at, position_at, flag_ex_at, string_at, base_at};
 
 use crate::{layout, words};
-use core_read::text::{FixedString8, FixedString24};
+use core_read::text::FixedString;
 use flags::pane::{PaneFlags, PaneFlagsEx};
 use flags::position::{BflytPosition, HorizontalPosition, VerticalPosition};
 use pane_read::Pane;
@@ -38,10 +38,10 @@ fn put_position(out: &mut [u64], g: BflytPosition)
     let parent_x = g.parent_relative_position_x;
     let parent_y = g.parent_relative_position_y;
     let words = [
-        x.number() as u64,
-        y.number() as u64,
-        parent_x.number() as u64,
-        parent_y.number() as u64,
+        u8::from(x) as u64,
+        u8::from(y) as u64,
+        u8::from(parent_x) as u64,
+        u8::from(parent_y) as u64,
     ];
     words::store(out, layout::POSITION, &words);
 }
@@ -60,24 +60,13 @@ fn put_flag_ex(out: &mut [u64], alpha: u8, x: PaneFlagsEx)
     words::store(out, layout::ALPHA, &words);
 }
 
-fn put_name(out: &mut [u64], n: FixedString24)
-    requires { 116 ≤ length out.old }
-    ensures { Stored out.old 18 (name_words n) out.new × (length n.bytes ≡ 24) }
+// A fixed string: its count, and from the next word on every byte of the array.
+fn put_string(out: &mut [u64], at: usize, count: usize, bytes: &[u8])
+    requires { at + 1 + length bytes.now ≤ length out.old }
+    ensures { Stored out.old at (count ∷ bytes.now) out.new }
 {
-    let bytes = n.bytes;
-    let count = [n.count as u64];
-    words::store(out, layout::NAME_COUNT, &count);
-    words::store_bytes(out, layout::NAME, &bytes);
-}
-
-fn put_user(out: &mut [u64], n: FixedString8)
-    requires { 116 ≤ length out.old }
-    ensures { Stored out.old 43 (user_words n) out.new × (length n.bytes ≡ 8) }
-{
-    let bytes = n.bytes;
-    let count = [n.count as u64];
-    words::store(out, layout::USER_COUNT, &count);
-    words::store_bytes(out, layout::USER, &bytes);
+    out[at] = count as u64;
+    words::store_bytes(out, at + 1, bytes);
 }
 
 fn put_transform(out: &mut [u64], t: Vector3f, r: Vector3f, c: Vector2f, s: Vector2f)
@@ -106,8 +95,18 @@ pub fn put_base(out: &mut [u64], b: Pane)
     put_flags(out, b.pane_flags);
     put_position(out, b.position);
     put_flag_ex(out, b.alpha, b.flag_ex);
-    put_name(out, b.pane_name);
-    put_user(out, b.user_name);
+    put_string(
+        out,
+        layout::NAME_COUNT,
+        b.pane_name.count,
+        &b.pane_name.bytes,
+    );
+    put_string(
+        out,
+        layout::USER_COUNT,
+        b.user_name.count,
+        &b.user_name.bytes,
+    );
     put_transform(out, b.translation, b.rotation, b.scale, b.size);
 }
 
@@ -133,13 +132,13 @@ fn position_of(w: &[u64]) -> BflytPosition
     requires { 116 ≤ length w.now }
     ensures { result ≡ position_at w.now }
 {
-    let position_x = HorizontalPosition::decode(words::byte_at(w, layout::POSITION));
-    let position_y = VerticalPosition::decode(words::byte_at(w, layout::POSITION + 1));
-    let parent_relative_position_x = HorizontalPosition::decode(words::byte_at(
+    let position_x = HorizontalPosition::from(words::byte_at(w, layout::POSITION));
+    let position_y = VerticalPosition::from(words::byte_at(w, layout::POSITION + 1));
+    let parent_relative_position_x = HorizontalPosition::from(words::byte_at(
         w,
         layout::POSITION + 2,
     ));
-    let parent_relative_position_y = VerticalPosition::decode(words::byte_at(
+    let parent_relative_position_y = VerticalPosition::from(words::byte_at(
         w,
         layout::POSITION + 3,
     ));
@@ -163,24 +162,15 @@ fn flag_ex_of(w: &[u64]) -> PaneFlagsEx
     }
 }
 
-fn name_of(w: &[u64]) -> FixedString24
-    requires { 116 ≤ length w.now }
-    ensures { result ≡ name_at w.now }
+// A fixed string, as put_string stores it.
+fn string_of<const N: usize>(w: &[u64], at: usize) -> FixedString<N>
+    requires { at + 1 + N ≤ length w.now }
+    ensures { result ≡ string_at N w.now at }
 {
-    let mut bytes = [0u8; 24];
-    words::bytes_at(w, layout::NAME, &mut bytes);
-    let count = w[layout::NAME_COUNT] as usize;
-    FixedString24 { bytes, count }
-}
-
-fn user_of(w: &[u64]) -> FixedString8
-    requires { 116 ≤ length w.now }
-    ensures { result ≡ user_at w.now }
-{
-    let mut bytes = [0u8; 8];
-    words::bytes_at(w, layout::USER, &mut bytes);
-    let count = w[layout::USER_COUNT] as usize;
-    FixedString8 { bytes, count }
+    let mut bytes = [0u8; N];
+    words::bytes_at(w, at + 1, &mut bytes);
+    let count = w[at] as usize;
+    FixedString { bytes, count }
 }
 
 pub fn base_of(w: &[u64]) -> Pane
@@ -191,8 +181,8 @@ pub fn base_of(w: &[u64]) -> Pane
     let position = position_of(w);
     let alpha = words::byte_at(w, layout::ALPHA);
     let flag_ex = flag_ex_of(w);
-    let pane_name = name_of(w);
-    let user_name = user_of(w);
+    let pane_name = string_of(w, layout::NAME_COUNT);
+    let user_name = string_of(w, layout::USER_COUNT);
     let translation = words::vector3_at(w, layout::TRANSLATION);
     let rotation = words::vector3_at(w, layout::ROTATION);
     let scale = words::vector2_at(w, layout::SCALE);

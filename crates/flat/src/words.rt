@@ -11,11 +11,7 @@ pub fn store(out: &mut [u64], at: usize, words: &[u64])
     requires { at + length words.now ≤ length out.old }
     ensures { Stored out.old at words.now out.new }
 {
-    let mut i = 0;
-    while i < words.len() {
-        out[at + i] = words[i];
-        i += 1;
-    }
+    out[at..at + words.len()].copy_from_slice(words);
 }
 
 // Each byte as a word.
@@ -23,10 +19,8 @@ pub fn store_bytes(out: &mut [u64], at: usize, bytes: &[u8])
     requires { at + length bytes.now ≤ length out.old }
     ensures { Stored out.old at bytes.now out.new }
 {
-    let mut i = 0;
-    while i < bytes.len() {
-        out[at + i] = bytes[i] as u64;
-        i += 1;
+    for (i, byte) in bytes.iter().enumerate() {
+        out[at + i] = *byte as u64;
     }
 }
 
@@ -43,14 +37,10 @@ pub fn store_colors(out: &mut [u64], at: usize, v: [Color4u8; 4])
     requires { at + 16 ≤ length out.old }
     ensures { Stored out.old at (colors_words v) out.new }
 {
-    let top_left = v[0];
-    let top_right = v[1];
-    let bottom_left = v[2];
-    let bottom_right = v[3];
-    store_color(out, at, top_left);
-    store_color(out, at + 4, top_right);
-    store_color(out, at + 8, bottom_left);
-    store_color(out, at + 12, bottom_right);
+    store_color(out, at, v[0]);
+    store_color(out, at + 4, v[1]);
+    store_color(out, at + 8, v[2]);
+    store_color(out, at + 12, v[3]);
 }
 
 // ---- read back
@@ -76,12 +66,8 @@ pub fn vector2_at(w: &[u64], at: usize) -> Vector2f
     ensures { result ≡ vector2_at w.now at }
 {
     Vector2f {
-        x: Binary32 {
-            bits: (w[at] % 4_294_967_296) as u32,
-        },
-        y: Binary32 {
-            bits: (w[at + 1] % 4_294_967_296) as u32,
-        },
+        x: float_at(w, at),
+        y: float_at(w, at + 1),
     }
 }
 
@@ -90,15 +76,9 @@ pub fn vector3_at(w: &[u64], at: usize) -> Vector3f
     ensures { result ≡ vector3_at w.now at }
 {
     Vector3f {
-        x: Binary32 {
-            bits: (w[at] % 4_294_967_296) as u32,
-        },
-        y: Binary32 {
-            bits: (w[at + 1] % 4_294_967_296) as u32,
-        },
-        z: Binary32 {
-            bits: (w[at + 2] % 4_294_967_296) as u32,
-        },
+        x: float_at(w, at),
+        y: float_at(w, at + 1),
+        z: float_at(w, at + 2),
     }
 }
 
@@ -107,10 +87,10 @@ pub fn color_at(w: &[u64], at: usize) -> Color4u8
     ensures { result ≡ quadruple_at w.now at }
 {
     Color4u8 {
-        r: (w[at] % 256) as u8,
-        g: (w[at + 1] % 256) as u8,
-        b: (w[at + 2] % 256) as u8,
-        a: (w[at + 3] % 256) as u8,
+        r: byte_at(w, at),
+        g: byte_at(w, at + 1),
+        b: byte_at(w, at + 2),
+        a: byte_at(w, at + 3),
     }
 }
 
@@ -118,11 +98,12 @@ pub fn colors_at(w: &[u64], at: usize) -> [Color4u8; 4]
     requires { at + 16 ≤ length w.now }
     ensures { result ≡ colors_at w.now at }
 {
-    let top_left = color_at(w, at);
-    let top_right = color_at(w, at + 4);
-    let bottom_left = color_at(w, at + 8);
-    let bottom_right = color_at(w, at + 12);
-    [top_left, top_right, bottom_left, bottom_right]
+    [
+        color_at(w, at),
+        color_at(w, at + 4),
+        color_at(w, at + 8),
+        color_at(w, at + 12),
+    ]
 }
 
 // The low byte of each word, as many as out has.
@@ -130,9 +111,7 @@ pub fn bytes_at(w: &[u64], at: usize, out: &mut [u8])
     requires { at + length out.old ≤ length w.now }
     ensures { out.new ≡ bytes_at w.now at (length out.old) }
 {
-    let mut i = 0;
-    while i < out.len() {
-        out[i] = (w[at + i] % 256) as u8;
-        i += 1;
+    for (i, byte) in out.iter_mut().enumerate() {
+        *byte = (w[at + i] % 256) as u8;
     }
 }

@@ -1,5 +1,5 @@
 -- Signed numbers that the code passes on: by their bits, and back.
-use mathlib.Core.Path.{◌≡◌, ap, ◌∙◌}
+use mathlib.Core.Path.{◌≡◌, refl, ap, ◌∙◌}
 use Prim.Native.Nat.{ℕ, ◌<◌}
 use native.Mathlib.Omega.{arith}
 use mathlib.Core.List.{List, [], ◌∷◌}
@@ -27,6 +27,11 @@ one s = s.word ∙ ap bits_of (to_z-of_z s.fits)
 pub sides_stored : {o o' : List ℕ} {p a b c d : ℕ} {l r t u : ℤ} → Side l a → Side r b → Side t c → Side u d
     → Stored o p (a ∷ b ∷ c ∷ d ∷ []) o' → Stored o p (bits_of l ∷ bits_of r ∷ bits_of t ∷ bits_of u ∷ []) o'
 sides_stored sa sb sc sd h = rw (one sa, one sb, one sc, one sd) at h
+
+-- four sides handed to a call
+pub sides_passed : {o o' : List ℕ} {p : ℕ} {l r t u : ℤ} → SFits w16 l → SFits w16 r → SFits w16 t → SFits w16 u
+    → Stored o p (bits_of (passed l) ∷ bits_of (passed r) ∷ bits_of (passed t) ∷ bits_of (passed u) ∷ []) o' → Stored o p (bits_of l ∷ bits_of r ∷ bits_of t ∷ bits_of u ∷ []) o'
+sides_passed fl fr ft fu = sides_stored (record { word = refl; fits = fl }) (record { word = refl; fits = fr }) (record { word = refl; fits = ft }) (record { word = refl; fits = fu })
 
 back : (w : List ℕ) (i : ℕ) (z : ℤ) → z ≡ side_at w i → passed z ≡ side_at w i
 back w i z e =

@@ -1,22 +1,21 @@
 -- The words that each kind but the text box has beyond the base, from OWN on, and back. Places are those of layout.rt.
-use Rattle.std.specs.Prelude.{ℕ, cond, List, [], ◌∷◌, ◌++◌, ℤ}
+use Rattle.std.specs.Prelude.{ℕ, cond, List, [], ◌∷◌, ◌++◌, ℤ, None, Some}
 use Rattle.core_read.specs.Bytes.{signed_of, bits_of}
 use Rattle.flags.specs.Enums.{window_kind_of, window_kind_number}
 use Rattle.flags.specs.declared.window.WindowFlags.{WindowFlags}
-use Rattle.picture_fields.specs.declared.ShapeIndex.{ShapeIndex}
-use Rattle.picture_fields.specs.declared.ShapeIndex.TheVariants as shape
 use Rattle.picture_fields.specs.declared.PicturePane.{PicturePane}
 use Rattle.window_read.specs.declared.WindowContent.{WindowContent}
 use Rattle.window_read.specs.declared.WindowPane.{WindowPane}
 use Rattle.alignment_fields.specs.declared.AlignmentPane.{AlignmentPane}
 use Rattle.flat.specs.Words.{flag_word, colors_words, byte_at, half_at, word_at, flag_at, float_at, colors_at}
+use Rattle.picture_fields.specs.Picture.{ShapeIndex}
 
 -- ---- pic1
 
 -- SHAPE_PRESENT, SHAPE_INDEX
 abbrev pub shape_words : ShapeIndex → List ℕ
-shape_words shape.Absent = 0 ∷ 0 ∷ []
-shape_words (shape.Index i) = 1 ∷ i ∷ []
+shape_words None = 0 ∷ 0 ∷ []
+shape_words (Some i) = 1 ∷ i ∷ []
 
 -- PICTURE_COLORS, PICTURE_MATERIAL, PICTURE_QUADS, and the shape
 unfoldable pub picture_words : PicturePane → List ℕ
@@ -24,7 +23,7 @@ picture_words x =
     colors_words x.vertex_colors ++ ((x.material_index ∷ x.quad_count ∷ []) ++ shape_words x.shape_info_array_index)
 
 abbrev pub shape_at : List ℕ → ShapeIndex
-shape_at w = cond (flag_at w 80) (shape.Index (word_at w 81)) shape.Absent
+shape_at w = cond (flag_at w 80) (Some (word_at w 81)) None
 
 -- the count by its low eight bits, whatever its word is: a write does not read it
 unfoldable pub picture_at : List ℕ → PicturePane

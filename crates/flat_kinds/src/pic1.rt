@@ -4,22 +4,17 @@ ghost use Rattle.flat.specs.Words.{Stored};
 ghost use Rattle.flat_kinds.specs.Own.{shape_words, picture_words, shape_at, picture_at};
 
 use flat::{layout, words};
-use picture_fields::{PicturePane, ShapeIndex};
+use picture_fields::PicturePane;
 
-fn put_shape(out: &mut [u64], x: ShapeIndex)
+fn put_shape(out: &mut [u64], x: Option<u32>)
     requires { 116 ≤ length out.old }
     ensures { Stored out.old 80 (shape_words x) out.new }
 {
-    match x {
-        ShapeIndex::Absent => {
-            let words = [0u64, 0u64];
-            words::store(out, layout::SHAPE_PRESENT, &words);
-        }
-        ShapeIndex::Index(index) => {
-            let words = [1u64, index as u64];
-            words::store(out, layout::SHAPE_PRESENT, &words);
-        }
-    }
+    let words = match x {
+        None => [0u64, 0],
+        Some(index) => [1, index as u64],
+    };
+    words::store(out, layout::SHAPE_PRESENT, &words);
 }
 
 pub fn put_picture(out: &mut [u64], x: PicturePane)
@@ -34,14 +29,14 @@ pub fn put_picture(out: &mut [u64], x: PicturePane)
     put_shape(out, shape);
 }
 
-fn shape_of(w: &[u64]) -> ShapeIndex
+fn shape_of(w: &[u64]) -> Option<u32>
     requires { 116 ≤ length w.now }
     ensures { result ≡ shape_at w.now }
 {
     if w[layout::SHAPE_PRESENT] == 1 {
-        ShapeIndex::Index((w[layout::SHAPE_INDEX] % 4_294_967_296) as u32)
+        Some((w[layout::SHAPE_INDEX] % 4_294_967_296) as u32)
     } else {
-        ShapeIndex::Absent
+        None
     }
 }
 

@@ -1,7 +1,8 @@
 // The words that a window has beyond the base.
-ghost use Rattle.std.specs.Prelude.{◌+◌, ◌≤◌, length, ◌≡◌};
+ghost use Rattle.std.specs.Prelude.{◌+◌, ◌≤◌, length, [], ◌∷◌, ◌≡◌};
 ghost use Rattle.flat.specs.Words.{Stored};
-ghost use Rattle.flat_kinds.specs.Own.{inflation_words, frame_size_words, window_flags_words, content_words, window_words, side_at, window_flags_at, content_at, window_at};
+ghost use Rattle.core_read.specs.Bytes.{bits_of};
+ghost use Rattle.flat_kinds.specs.Own.{window_flags_words, content_words, window_words, side_at, window_flags_at, content_at, window_at};
 
 use core_read::signed;
 use flags::window::{WindowFlags, WindowKind};
@@ -10,30 +11,17 @@ use window_read::{WindowContent, WindowPane};
 
 // ---- stored
 
-fn put_inflation(out: &mut [u64], x: WindowPane)
-    requires { 116 ≤ length out.old }
-    ensures { Stored out.old 62 (inflation_words x) out.new }
+fn put_sides(out: &mut [u64], at: usize, left: i16, right: i16, top: i16, bottom: i16)
+    requires { at + 4 ≤ length out.old }
+    ensures { Stored out.old at (bits_of left ∷ bits_of right ∷ bits_of top ∷ bits_of bottom ∷ []) out.new }
 {
     let words = [
-        signed::bits_of(x.inflation_left) as u64,
-        signed::bits_of(x.inflation_right) as u64,
-        signed::bits_of(x.inflation_top) as u64,
-        signed::bits_of(x.inflation_bottom) as u64,
+        signed::bits_of(left) as u64,
+        signed::bits_of(right) as u64,
+        signed::bits_of(top) as u64,
+        signed::bits_of(bottom) as u64,
     ];
-    words::store(out, layout::INFLATION, &words);
-}
-
-fn put_frame_size(out: &mut [u64], x: WindowPane)
-    requires { 116 ≤ length out.old }
-    ensures { Stored out.old 66 (frame_size_words x) out.new }
-{
-    let words = [
-        signed::bits_of(x.frame_size_left) as u64,
-        signed::bits_of(x.frame_size_right) as u64,
-        signed::bits_of(x.frame_size_top) as u64,
-        signed::bits_of(x.frame_size_bottom) as u64,
-    ];
-    words::store(out, layout::FRAME_SIZE, &words);
+    words::store(out, at, &words);
 }
 
 fn put_flag(out: &mut [u64], f: WindowFlags, frame_count: u8)
@@ -44,7 +32,7 @@ fn put_flag(out: &mut [u64], f: WindowFlags, frame_count: u8)
     let words = [
         f.use_left_corner_material as u64,
         f.use_vertex_color_for_all_window as u64,
-        kind.number() as u64,
+        u8::from(kind) as u64,
         f.not_draw_content as u64,
         frame_count as u64,
     ];
@@ -65,8 +53,22 @@ pub fn put_window(out: &mut [u64], x: WindowPane)
     requires { 116 ≤ length out.old }
     ensures { Stored out.old 62 (window_words x) out.new }
 {
-    put_inflation(out, x);
-    put_frame_size(out, x);
+    put_sides(
+        out,
+        layout::INFLATION,
+        x.inflation_left,
+        x.inflation_right,
+        x.inflation_top,
+        x.inflation_bottom,
+    );
+    put_sides(
+        out,
+        layout::FRAME_SIZE,
+        x.frame_size_left,
+        x.frame_size_right,
+        x.frame_size_top,
+        x.frame_size_bottom,
+    );
     put_flag(out, x.flag, x.frame_count);
     put_content(out, x.content);
 }
@@ -86,7 +88,7 @@ fn flag_of(w: &[u64]) -> WindowFlags
     ensures { result ≡ window_flags_at w.now }
 {
     let number = (w[layout::WINDOW_KIND] % 256) as u8;
-    let window_kind = WindowKind::decode(number);
+    let window_kind = WindowKind::from(number);
     WindowFlags {
         use_left_corner_material: w[layout::WINDOW_FLAGS] == 1,
         use_vertex_color_for_all_window: w[layout::WINDOW_FLAGS + 1] == 1,

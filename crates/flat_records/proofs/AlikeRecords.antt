@@ -8,10 +8,6 @@ use lib.ListN.{get_or}
 use lib.Dec.{leb, ltb}
 use borrow.Author.Tests.{leb-true, ltb-true}
 use Rattle.picture_fields.specs.declared.PicturePane.{PicturePane}
-use Rattle.text_box_parts.specs.declared.Label.{Label}
-use Rattle.text_box_parts.specs.declared.Label.TheVariants as label
-use Rattle.text_box_parts.specs.declared.LineTable.{LineTable}
-use Rattle.text_box_parts.specs.declared.LineTable.TheVariants as lines
 use Rattle.text_box_read.specs.declared.TextBoxPane.{TextBoxPane}
 use Rattle.window_read.specs.declared.WindowPane.{WindowPane}
 use Rattle.strip_records.specs.declared.kind.Kind.{Kind}
@@ -24,6 +20,8 @@ use Rattle.flat_text_box.specs.TextBox.{text_flags_at, label_at, lines_at, text_
 use Rattle.flat_records.specs.Records.{kind_of, record_by, record_of}
 use Rattle.flat_records.specs.Unread.{Range, range, ranges_read, Agree, AgreeAll, SameRead}
 use Rattle.flat_records.proofs.Alike.{both_true, kinds_same}
+use Rattle.text_box_parts.specs.Parts.{Label, LineTable}
+use Rattle.std.specs.Prelude.{None, Some}
 
 -- ---- a record with its counts, its label's place and its label's length set to 0
 
@@ -36,12 +34,12 @@ plain_picture x = record {
 }
 
 abbrev pub plain_label : Label → Label
-plain_label label.Absent = label.Absent
-plain_label (label.At place long) = label.At 0 0
+plain_label None = None
+plain_label (Some span) = Some (record { place = 0; length = 0 })
 
 abbrev pub plain_lines : LineTable → LineTable
-plain_lines lines.Absent = lines.Absent
-plain_lines (lines.Present count) = lines.Present 0
+plain_lines None = None
+plain_lines (Some count) = Some 0
 
 abbrev pub plain_text_box : TextBoxPane → TextBoxPane
 plain_text_box x = record {
@@ -94,11 +92,11 @@ plain r = record {
 }
 
 -- where the flags are alike, place, length and count are not looked at
-label_plain : (t : Bool) (a b c d : ℕ) → plain_label (cond t (label.At a b) label.Absent) ≡ plain_label (cond t (label.At c d) label.Absent)
+label_plain : (t : Bool) (a b c d : ℕ) → plain_label (cond t (Some (record { place = a; length = b })) None) ≡ plain_label (cond t (Some (record { place = c; length = d })) None)
 label_plain true a b c d = refl
 label_plain false a b c d = refl
 
-lines_plain : (t : Bool) (a b : ℕ) → plain_lines (cond t (lines.Present a) lines.Absent) ≡ plain_lines (cond t (lines.Present b) lines.Absent)
+lines_plain : (t : Bool) (a b : ℕ) → plain_lines (cond t (Some a) None) ≡ plain_lines (cond t (Some b) None)
 lines_plain true a b = refl
 lines_plain false a b = refl
 

@@ -1,20 +1,17 @@
 -- The base, a picture and an alignment pane, read back from their words.
 use mathlib.Core.Path.{◌≡◌, refl, sym, ap, ◌∙◌}
-use Prim.Native.Nat.{ℕ, ◌+◌, ◌<◌}
+use Prim.Native.Nat.{ℕ, ◌<◌}
 use native.Mathlib.Omega.{arith}
 use mathlib.Core.List.{List, [], ◌∷◌, ◌++◌}
 use lib.ListN.{length}
 use Rattle.core_read.proofs.Back.{Holds, split}
-use Rattle.core_read.specs.declared.text.FixedString24.{FixedString24}
-use Rattle.core_read.specs.declared.text.FixedString8.{FixedString8}
+use Rattle.core_read.specs.declared.text.FixedString.{FixedString}
 use Rattle.flags.specs.declared.pane.PaneFlags.{PaneFlags}
 use Rattle.flags.specs.declared.pane.PaneFlagsEx.{PaneFlagsEx}
 use Rattle.flags.specs.declared.position.BflytPosition.{BflytPosition}
 use Rattle.pane_read.specs.Typed.{TypedPane}
 use Rattle.pane_read.specs.declared.Pane.{Pane}
 use Rattle.picture_fields.specs.Typed.{TypedPicture, TypedShape}
-use Rattle.picture_fields.specs.declared.ShapeIndex.{ShapeIndex}
-use Rattle.picture_fields.specs.declared.ShapeIndex.TheVariants as shape
 use Rattle.picture_fields.specs.declared.PicturePane.{PicturePane}
 use Rattle.alignment_fields.specs.Alignment.{TypedAlignment}
 use Rattle.alignment_fields.specs.declared.AlignmentPane.{AlignmentPane}
@@ -23,6 +20,8 @@ use Rattle.flat.specs.Words.{colors_words, bytes_at}
 use Rattle.flat.specs.Base.{pane_flags_words, position_words, flag_ex_words, name_words, user_words, transform_words, base_words, pane_flags_at, position_at, flag_ex_at, name_at, user_at, base_at}
 use Rattle.flat_kinds.specs.Own.{shape_words, picture_words, shape_at, picture_at, alignment_words, alignment_at}
 use Rattle.flat_records.proofs.BackParts.{nth, flag_nth, byte_nth, half_nth, word_nth, float_nth, horizontal_nth, vertical_nth, vector2_nth, vector3_nth, bytes_back, colors_back}
+use Rattle.picture_fields.specs.Picture.{ShapeIndex}
+use Rattle.std.specs.Prelude.{None, Some}
 
 module _ {w : List ℕ} where
   -- ---- the base
@@ -42,13 +41,13 @@ module _ {w : List ℕ} where
       let ws = flag_ex_words alpha x in
       rw (flag_nth ws a 1 x.is_no_scale_by_parts (omega arith) refl, flag_nth ws a 2 x.is_scale_size_by_parts_root (omega arith) refl, flag_nth ws a 3 x.is_ext_user_data (omega arith) refl, byte_nth ws a 4 x.reserve0 (omega arith) refl k)
 
-  name_back : (n : FixedString24) → length n.bytes ≡ 24 → Below 256 n.bytes → Holds w 18 (name_words n) → name_at w ≡ n
+  name_back : (n : FixedString 24) → length n.bytes ≡ 24 → Below 256 n.bytes → Holds w 18 (name_words n) → name_at w ≡ n
   name_back n h k a =
       let (a₁, a₂) = split (n.count ∷ []) n.bytes 1 refl a in
       let e = ap (bytes_at w 19) (sym h) ∙ bytes_back n.bytes k a₂ in
       rw (nth (n.count ∷ []) a₁ 0 n.count (omega arith) refl, e)
 
-  user_back : (n : FixedString8) → length n.bytes ≡ 8 → Below 256 n.bytes → Holds w 43 (user_words n) → user_at w ≡ n
+  user_back : (n : FixedString 8) → length n.bytes ≡ 8 → Below 256 n.bytes → Holds w 43 (user_words n) → user_at w ≡ n
   user_back n h k a =
       let (a₁, a₂) = split (n.count ∷ []) n.bytes 1 refl a in
       let e = ap (bytes_at w 44) (sym h) ∙ bytes_back n.bytes k a₂ in
@@ -80,8 +79,8 @@ module _ {w : List ℕ} where
   -- ---- pic1
 
   shape_back : (x : ShapeIndex) → TypedShape x → Holds w 80 (shape_words x) → shape_at w ≡ x
-  shape_back shape.Absent t a = rw (nth (0 ∷ 0 ∷ []) a 0 0 (omega arith) refl)
-  shape_back (shape.Index i) t a = rw (nth (1 ∷ i ∷ []) a 0 1 (omega arith) refl, word_nth (1 ∷ i ∷ []) a 1 i (omega arith) refl t)
+  shape_back None t a = rw (nth (0 ∷ 0 ∷ []) a 0 0 (omega arith) refl)
+  shape_back (Some i) t a = rw (nth (1 ∷ i ∷ []) a 0 1 (omega arith) refl, word_nth (1 ∷ i ∷ []) a 1 i (omega arith) refl t)
 
   pub picture_back : (x : PicturePane) → TypedPicture x → Holds w 62 (picture_words x) → picture_at w ≡ x
   unfolding picture_words picture_at

@@ -20,10 +20,6 @@ use Rattle.text_box_read.specs.declared.FontMeasure.{FontMeasure}
 use Rattle.text_box_read.specs.declared.FontMeasure.TheVariants as measure
 use Rattle.text_box_parts.specs.declared.Text.{Text}
 use Rattle.text_box_parts.specs.declared.Text.TheVariants as text
-use Rattle.text_box_parts.specs.declared.Label.{Label}
-use Rattle.text_box_parts.specs.declared.Label.TheVariants as label
-use Rattle.text_box_parts.specs.declared.LineTable.{LineTable}
-use Rattle.text_box_parts.specs.declared.LineTable.TheVariants as lines
 use Rattle.text_box_read.specs.declared.TextBoxPane.{TextBoxPane}
 use Rattle.window_read.specs.Typed.{TypedWindow}
 use Rattle.window_read.specs.declared.WindowPane.{WindowPane}
@@ -33,6 +29,8 @@ use Rattle.flat_text_box.specs.TextBox.{indices_words, text_flags_words, measure
 use Rattle.flat_records.specs.Typed.{TypedLines}
 use Rattle.flat_records.proofs.BackParts.{nth, flag_nth, byte_nth, half_nth, float_nth, horizontal_nth, vertical_nth, vector2_nth, color_back, colors_back}
 use Rattle.flat_text_box.proofs.Lengths.{measure_end, font_end, text_end, label_end}
+use Rattle.text_box_parts.specs.Parts.{Label, LineTable}
+use Rattle.std.specs.Prelude.{None, Some}
 
 module _ {w : List ℕ} where
   -- ---- txt1
@@ -69,15 +67,15 @@ module _ {w : List ℕ} where
   tilt_back tilt text.Present h a = float_nth (text_words tilt text.Present) a 0 tilt (omega arith) refl h
 
   label_back : (x : Label) → Holds w 111 (label_words x) → label_at w ≡ x
-  label_back label.Absent a = rw (nth (label_words label.Absent) a 0 0 (omega arith) refl)
-  label_back (label.At p n) a =
-      let ws = label_words (label.At p n) in
-      rw (nth ws a 0 1 (omega arith) refl, nth ws a 1 p (omega arith) refl, nth ws a 2 n (omega arith) refl)
+  label_back None a = rw (nth (label_words None) a 0 0 (omega arith) refl)
+  label_back (Some span) a =
+      let ws = label_words (Some span) in
+      rw (nth ws a 0 1 (omega arith) refl, nth ws a 1 span.place (omega arith) refl, nth ws a 2 span.length (omega arith) refl)
 
   lines_back : (x : LineTable) → TypedLines x → Holds w 114 (lines_words x) → lines_at w ≡ x
-  lines_back lines.Absent t a = rw (nth (lines_words lines.Absent) a 0 0 (omega arith) refl)
-  lines_back (lines.Present n) t a =
-      let ws = lines_words (lines.Present n) in
+  lines_back None t a = rw (nth (lines_words None) a 0 0 (omega arith) refl)
+  lines_back (Some n) t a =
+      let ws = lines_words (Some n) in
       rw (nth ws a 0 1 (omega arith) refl, byte_nth ws a 1 n (omega arith) refl t)
 
   -- the sizes and indices

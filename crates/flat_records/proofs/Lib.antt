@@ -1,5 +1,5 @@
 mod RecordLengths
-mod Scanning
+pub mod Scanning
 mod BackParts
 mod BackBase
 mod BackOwn

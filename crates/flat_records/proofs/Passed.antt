@@ -20,18 +20,12 @@ use Rattle.ui2d.specs.declared.Vector3f.{Vector3f}
 use Rattle.pane_read.specs.Typed.{TypedPane}
 use Rattle.pane_read.specs.declared.Pane.{Pane}
 use Rattle.picture_fields.specs.Typed.{TypedPicture, TypedShape}
-use Rattle.picture_fields.specs.declared.ShapeIndex.{ShapeIndex}
-use Rattle.picture_fields.specs.declared.ShapeIndex.TheVariants as shape
 use Rattle.picture_fields.specs.declared.PicturePane.{PicturePane}
 use Rattle.text_box_read.specs.Typed.{TypedTextBox, TypedMeasure}
 use Rattle.text_box_read.specs.declared.FontMeasure.{FontMeasure}
 use Rattle.text_box_read.specs.declared.FontMeasure.TheVariants as measure
 use Rattle.text_box_parts.specs.declared.Text.{Text}
 use Rattle.text_box_parts.specs.declared.Text.TheVariants as text
-use Rattle.text_box_parts.specs.declared.Label.{Label}
-use Rattle.text_box_parts.specs.declared.Label.TheVariants as label
-use Rattle.text_box_parts.specs.declared.LineTable.{LineTable}
-use Rattle.text_box_parts.specs.declared.LineTable.TheVariants as lines
 use Rattle.text_box_read.specs.declared.TextBoxPane.{TextBoxPane}
 use Rattle.window_read.specs.Typed.{TypedWindow}
 use Rattle.window_read.specs.declared.WindowPane.{WindowPane}
@@ -48,14 +42,15 @@ use Rattle.flat_text_box.specs.TextBox.{indices_words, text_flags_words, measure
 use Rattle.flat_text_box.proofs.Lengths.{measure_end, font_end, text_end, label_end}
 use Rattle.flat.proofs.Lengths.{base_long}
 use Rattle.flat_records.specs.Records.{kind_number, kind_of, own_words, record_words}
-use Rattle.flat_records.specs.Below.{base_bounds, picture_bounds, font_bounds, shadow_bounds, window_bounds, alignment_bounds, checked_by, own_checked, words_checked}
+use Rattle.flat_records.specs.Below.{Checked, good, base_bounds, picture_bounds, font_bounds, shadow_bounds, window_bounds, alignment_bounds, checked_by, own_checked, words_checked}
 use Rattle.flat_records.specs.Typed.{TypedWords}
-use Rattle.flat_records.specs.declared.bounds.Checked.{Checked}
-use Rattle.flat_records.specs.declared.bounds.Checked.TheVariants.{Good}
 use Rattle.flat_records.proofs.BackParts.{nth}
 use Rattle.flat_records.proofs.SameParts.{Scanned, AllScanned}
 use Rattle.flat_records.proofs.Passing.{Small, none, more, both, flag_below, color_below, colors_below, held, joined, all_passed}
 use Rattle.flat_records.proofs.Again.{kind_back, stands}
+use Rattle.picture_fields.specs.Picture.{ShapeIndex}
+use Rattle.text_box_parts.specs.Parts.{Label, LineTable}
+use Rattle.std.specs.Prelude.{None, Some}
 
 -- ---- numbers below their bounds
 
@@ -170,10 +165,10 @@ module _ {w : List ℕ} where
   -- ---- pic1
 
   shape_passed : (x : ShapeIndex) → TypedShape x → Holds w 80 (shape_words x) → Scanned w 80 1 2 × Scanned w 81 1 4294967296
-  shape_passed shape.Absent t a =
+  shape_passed None t a =
       let (a₁, a₂) = split (0 ∷ []) (0 ∷ []) 1 refl a in
       (held (0 ∷ []) refl (more (omega arith) none) a₁, held (0 ∷ []) refl (more (omega arith) none) a₂)
-  shape_passed (shape.Index i) t a =
+  shape_passed (Some i) t a =
       let (a₁, a₂) = split (1 ∷ []) (i ∷ []) 1 refl a in
       (held (1 ∷ []) refl (more (omega arith) none) a₁, held (i ∷ []) refl (more t none) a₂)
 
@@ -245,12 +240,12 @@ module _ {w : List ℕ} where
       (held (tilt.bits ∷ []) refl (more h none) a₁, held (1 ∷ []) refl (more (omega arith) none) a₂)
 
   label_passed : (x : Label) → Holds w 111 (label_words x) → Scanned w 111 1 2
-  label_passed label.Absent a = held (0 ∷ []) refl (more (omega arith) none) (split (0 ∷ []) (0 ∷ 0 ∷ []) 1 refl a).0
-  label_passed (label.At p n) a = held (1 ∷ []) refl (more (omega arith) none) (split (1 ∷ []) (p ∷ n ∷ []) 1 refl a).0
+  label_passed None a = held (0 ∷ []) refl (more (omega arith) none) (split (0 ∷ []) (0 ∷ 0 ∷ []) 1 refl a).0
+  label_passed (Some span) a = held (1 ∷ []) refl (more (omega arith) none) (split (1 ∷ []) (span.place ∷ span.length ∷ []) 1 refl a).0
 
   lines_passed : (x : LineTable) → Holds w 114 (lines_words x) → Scanned w 114 1 2
-  lines_passed lines.Absent a = held (0 ∷ []) refl (more (omega arith) none) (split (0 ∷ []) (0 ∷ []) 1 refl a).0
-  lines_passed (lines.Present n) a = held (1 ∷ []) refl (more (omega arith) none) (split (1 ∷ []) (n ∷ []) 1 refl a).0
+  lines_passed None a = held (0 ∷ []) refl (more (omega arith) none) (split (0 ∷ []) (0 ∷ []) 1 refl a).0
+  lines_passed (Some n) a = held (1 ∷ []) refl (more (omega arith) none) (split (1 ∷ []) (n ∷ []) 1 refl a).0
 
   shadow_passed : (x : TextBoxPane) → TypedTextBox x → Holds w 95 (shadow_words x) → Holds w 109 (parts_words x) → AllScanned shadow_bounds w
   shadow_passed x t a b =
@@ -321,7 +316,7 @@ module _ {w : List ℕ} where
 
   -- ---- a record
 
-  own_passed : (r : Record) (k : Kind) → TypedWords r → Holds w 62 (own_words k r) → own_checked k Good w ≡ Good
+  own_passed : (r : Record) (k : Kind) → TypedWords r → Holds w 62 (own_words k r) → own_checked k good w ≡ good
   unfolding own_words
   own_passed r Pan1 t a = refl
   own_passed r Pic1 t a = all_passed picture_bounds w (picture_passed r.picture t.fields.picture a)
@@ -331,15 +326,15 @@ module _ {w : List ℕ} where
   own_passed r Wnd1 t a = all_passed window_bounds w (window_passed r.window t.fields.window a)
   own_passed r Ali1 t a = all_passed alignment_bounds w (alignment_passed r.alignment t.fields.alignment a)
 
-  record_passed : (r : Record) → TypedWords r → Holds w 0 (record_words r) → words_checked w ≡ Good
+  record_passed : (r : Record) → TypedWords r → Holds w 0 (record_words r) → words_checked w ≡ good
   unfolding record_words words_checked
   record_passed r t a =
       let (k, rest) = split (kind_number r.kind ∷ []) (base_words r.base ++ own_words r.kind r) 1 refl a in
       let (b, own) = split (base_words r.base) (own_words r.kind r) 61 (base_long r.base t.fields.base.name t.fields.base.user) rest in
       let e = ap kind_of (nth (kind_number r.kind ∷ []) k 0 (kind_number r.kind) (omega arith) refl) ∙ kind_back r.kind in
       let f = all_passed base_bounds w (base_passed r.kind r.base t.fields.base t.name t.user k b) in
-      ap (λ (j : Kind). own_checked j (checked_by Good base_bounds w) w) e ∙ ap (λ (c : Checked). own_checked r.kind c w) f ∙ own_passed r r.kind t own
+      ap (λ (j : Kind). own_checked j (checked_by good base_bounds w) w) e ∙ ap (λ (c : Checked). own_checked r.kind c w) f ∙ own_passed r r.kind t own
 
 -- THE LAW: stored by a read into a record's words, a record passes the test of a write
-pub handed_good : (r : Record) (w : List ℕ) → TypedWords r → 116 ≤ length w → words_checked (splice w 0 (record_words r)) ≡ Good
+pub handed_good : (r : Record) (w : List ℕ) → TypedWords r → 116 ≤ length w → words_checked (splice w 0 (record_words r)) ≡ good
 handed_good r w t h = record_passed r t (stands r w t h)

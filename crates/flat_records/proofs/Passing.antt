@@ -12,9 +12,7 @@ use Rattle.ui2d.specs.Typed.{TypedColor, TypedColors, color_at}
 use Rattle.ui2d.specs.declared.Color4u8.{Color4u8}
 use Rattle.strip_records.specs.Typed.{Below}
 use Rattle.flat.specs.Words.{flag_word, color_words, colors_words}
-use Rattle.flat_records.specs.Below.{scanned, or_scanned, Bound, checked_by}
-use Rattle.flat_records.specs.declared.bounds.Checked.{Checked}
-use Rattle.flat_records.specs.declared.bounds.Checked.TheVariants.{Good}
+use Rattle.flat_records.specs.Below.{Checked, good, scanned, or_scanned, Bound, checked_by}
 use Rattle.flat_records.proofs.BackParts.{nth}
 use Rattle.flat_records.proofs.SameParts.{Scanned, AllScanned, not_bad}
 
@@ -54,7 +52,7 @@ colors_below vs t =
 
 -- ---- words that stand at a place
 
-held_all : {w : List ℕ} {p : ℕ} (bound : ℕ) (xs : List ℕ) → Below bound xs → Holds w p xs → scanned w p (length xs) bound ≡ Good
+held_all : {w : List ℕ} {p : ℕ} (bound : ℕ) (xs : List ℕ) → Below bound xs → Holds w p xs → scanned w p (length xs) bound ≡ good
 unfolding scanned Below
 held_all bound [] h a = refl
 held_all {w} {p = p} bound (x ∷ xs) (h, k) a =
@@ -64,30 +62,30 @@ held_all {w} {p = p} bound (x ∷ xs) (h, k) a =
     rw (f, lt-ltb x bound h) (held_all {p = p + 1} bound xs k a₂)
 
 pub held : {w : List ℕ} {p n bound : ℕ} (xs : List ℕ) → length xs ≡ n → Small bound xs → Holds w p xs → Scanned w p n bound
-held {w} {p} {n} {bound} xs e h a = record { good = subst (λ (k : ℕ). scanned w p k bound ≡ Good) e (held_all bound xs h.all a) }
+held {w} {p} {n} {bound} xs e h a = record { good = subst (λ (k : ℕ). scanned w p k bound ≡ good) e (held_all bound xs h.all a) }
 
 -- one run after the other
-joined_all : (w : List ℕ) (p n m bound : ℕ) → scanned w p n bound ≡ Good → scanned w (p + n) m bound ≡ Good → scanned w p (n + m) bound ≡ Good
+joined_all : (w : List ℕ) (p n m bound : ℕ) → scanned w p n bound ≡ good → scanned w (p + n) m bound ≡ good → scanned w p (n + m) bound ≡ good
 unfolding scanned
 joined_all w p zero m bound s t =
     let e : p + 0 ≡ p = omega arith in
     let f : 0 + m ≡ m = omega arith in
-    rw f (subst (λ (k : ℕ). scanned w k m bound ≡ Good) e t)
+    rw f (subst (λ (k : ℕ). scanned w k m bound ≡ good) e t)
 joined_all w p (suc n) m bound s t =
     let e : suc n + m ≡ suc (n + m) = omega arith in
     let f : p + suc n ≡ p + 1 + n = omega arith in
     let (x, y) = not_bad (ltb (get_or w p 0) bound) (scanned w (p + 1) n bound) p s in
-    rw (e, x) (joined_all w (p + 1) n m bound y (subst (λ (k : ℕ). scanned w k m bound ≡ Good) f t))
+    rw (e, x) (joined_all w (p + 1) n m bound y (subst (λ (k : ℕ). scanned w k m bound ≡ good) f t))
 
 pub joined : {w : List ℕ} {p n m bound : ℕ} → Scanned w p n bound → Scanned w (p + n) m bound → Scanned w p (n + m) bound
 joined {w} {p} {n} {m} {bound} s t = record { good = joined_all w p n m bound s.good t.good }
 
 -- ---- the bounds of a list
 
-or_passed : {w : List ℕ} {p n bound : ℕ} → Scanned w p n bound → or_scanned Good w p n bound ≡ Good
+or_passed : {w : List ℕ} {p n bound : ℕ} → Scanned w p n bound → or_scanned good w p n bound ≡ good
 unfolding or_scanned
 or_passed s = s.good
 
-pub all_passed : (bs : List Bound) (w : List ℕ) → AllScanned bs w → checked_by Good bs w ≡ Good
+pub all_passed : (bs : List Bound) (w : List ℕ) → AllScanned bs w → checked_by good bs w ≡ good
 all_passed [] w t = refl
-all_passed (b ∷ bs) w (s, t) = ap (λ (c : Checked). checked_by c bs w) (or_passed s) ∙ all_passed bs w t
+all_passed ((from, count, bound) ∷ bs) w (s, t) = ap (λ (c : Checked). checked_by c bs w) (or_passed s) ∙ all_passed bs w t

@@ -10,14 +10,13 @@ use lib.Seq.{set-get_or}
 use lib.Dec.{ltb}
 use borrow.Author.Tests.{ltb-true}
 use Rattle.core_read.specs.Bytes.{splice, bits_of, signed_of}
-use Rattle.core_read.proofs.TwosComplement.{bits_signed}
+use Rattle.core_read.specs.Laws.{bits_signed}
 use Rattle.flags.specs.Packed.{flag_of}
 use Rattle.flags.specs.Enums.{horizontal_of, horizontal_number, vertical_of, vertical_number, alignment_of, alignment_number, window_kind_of, window_kind_number}
 use Rattle.flat.specs.Words.{flag_word, bytes_at}
 use Rattle.flat_records.specs.Records.{kind_of, kind_number}
-use Rattle.flat_records.specs.Below.{scanned, or_scanned, Bound, checked_by}
-use Rattle.flat_records.specs.declared.bounds.Checked.{Checked}
-use Rattle.flat_records.specs.declared.bounds.Checked.TheVariants.{Good, Bad}
+use Rattle.flat_records.specs.Below.{Checked, good, bad, scanned, or_scanned, Bound, checked_by}
+use Rattle.std.proofs.Common.{Ok, Err}
 
 -- n words from p on
 unfoldable pub run : List ℕ → ℕ → ℕ → List ℕ
@@ -32,18 +31,18 @@ run_again w p (suc n) = ap (λ (l : List ℕ). splice l (p + 1) (run w (p + 1) n
 
 -- ---- what the test tells
 
-never : (i : ℕ) → Bad i ≡ Good → ⊥
+never : (i : ℕ) → bad i ≡ good → ⊥
 never i e = let z : ◌≡◌ {A = ℕ} 0 1 = cc in omega arith
 
-pub not_bad : (t : Bool) (c : Checked) (i : ℕ) → cond t c (Bad i) ≡ Good → (t ≡ true) × (c ≡ Good)
+pub not_bad : (t : Bool) (c : Checked) (i : ℕ) → cond t c (bad i) ≡ good → (t ≡ true) × (c ≡ good)
 not_bad true c i e = (refl, e)
 not_bad false c i e = absurd (never i e)
 
 -- a run that was scanned
 pub record Scanned (w : List ℕ) (p n bound : ℕ) : Type 0 where
-  pub good : scanned w p n bound ≡ Good
+  pub good : scanned w p n bound ≡ good
 
-below_at : (w : List ℕ) (p n bound : ℕ) → scanned w p n bound ≡ Good → (j : ℕ) → j < n → get_or w (p + j) 0 < bound
+below_at : (w : List ℕ) (p n bound : ℕ) → scanned w p n bound ≡ good → (j : ℕ) → j < n → get_or w (p + j) 0 < bound
 unfolding scanned
 below_at w p zero bound s j h = absurd (omega arith)
 below_at w p (suc n) bound s zero h =
@@ -57,20 +56,20 @@ below_at w p (suc n) bound s (suc j) h =
 pub below : {w : List ℕ} {p n bound : ℕ} → Scanned w p n bound → (j : ℕ) → j < n → get_or w (p + j) 0 < bound
 below {w} {p} {n} {bound} s j h = below_at w p n bound s.good j h
 
-or_good : (c : Checked) (w : List ℕ) (p n bound : ℕ) → or_scanned c w p n bound ≡ Good → (c ≡ Good) × Scanned w p n bound
+or_good : (c : Checked) (w : List ℕ) (p n bound : ℕ) → or_scanned c w p n bound ≡ good → (c ≡ good) × Scanned w p n bound
 unfolding or_scanned
-or_good Good w p n bound e = (refl, record { good = e })
-or_good (Bad i) w p n bound e = absurd (never i e)
+or_good (Ok u) w p n bound e = (refl, record { good = e })
+or_good (Err b) w p n bound e = absurd (never b.index e)
 
 abbrev pub AllScanned : List Bound → List ℕ → Type 0
 AllScanned [] w = Unit {0}
-AllScanned (b ∷ bs) w = Scanned w b.from b.count b.bound × AllScanned bs w
+AllScanned ((from, count, bound) ∷ bs) w = Scanned w from count bound × AllScanned bs w
 
-pub all_good : (c : Checked) (bs : List Bound) (w : List ℕ) → checked_by c bs w ≡ Good → (c ≡ Good) × AllScanned bs w
+pub all_good : (c : Checked) (bs : List Bound) (w : List ℕ) → checked_by c bs w ≡ good → (c ≡ good) × AllScanned bs w
 all_good c [] w e = (e, tt)
-all_good c (b ∷ bs) w e =
-    let (d, more) = all_good (or_scanned c w b.from b.count b.bound) bs w e in
-    let (first, s) = or_good c w b.from b.count b.bound d in
+all_good c ((from, count, bound) ∷ bs) w e =
+    let (d, more) = all_good (or_scanned c w from count bound) bs w e in
+    let (first, s) = or_good c w from count bound d in
     (first, (s, more))
 
 -- ---- a word, read and written again

@@ -13,10 +13,8 @@ use Rattle.flat.specs.Base.{pane_flags_words, position_words, flag_ex_words, nam
 use Rattle.flat_kinds.specs.Own.{shape_words, picture_words, shape_at, picture_at, inflation_words, frame_size_words, window_flags_words, window_words, window_flags_at, window_at, alignment_words, alignment_at}
 use Rattle.flat_text_box.specs.TextBox.{indices_words, text_flags_words, measure_words, font_words, shadow_words, text_words, label_words, lines_words, text_box_words, text_flags_at, measure_at, text_at, label_at, lines_at, text_box_at}
 use Rattle.flat_records.specs.Records.{kind_of, kind_number, own_words, record_words, record_by, record_of}
-use Rattle.flat_records.specs.Below.{base_bounds, picture_bounds, font_bounds, shadow_bounds, window_bounds, alignment_bounds, checked_by, own_checked, words_checked}
+use Rattle.flat_records.specs.Below.{Checked, good, base_bounds, picture_bounds, font_bounds, shadow_bounds, window_bounds, alignment_bounds, checked_by, own_checked, words_checked}
 use Rattle.flat_records.specs.Typed.{Plain, Counted}
-use Rattle.flat_records.specs.declared.bounds.Checked.{Checked}
-use Rattle.flat_records.specs.declared.bounds.Checked.TheVariants.{Good}
 use Rattle.flat_records.proofs.SameParts.{run, run_again, Scanned, below, AllScanned, all_good, flag_word_lem, horizontal_word, vertical_word, window_kind_word, alignment_word, kind_word, side_word, bytes_words}
 
 join : {a b c d : List ℕ} → a ≡ b → c ≡ d → a ++ c ≡ b ++ d
@@ -166,17 +164,17 @@ module _ (w : List ℕ) where
 
   -- ---- a record
 
-  whole_same : (k : Kind) → kind_number k ≡ get_or w 0 0 → AllScanned base_bounds w → own_checked k Good w ≡ Good → Plain k w → Counted k w → splice w 0 (record_words (record_by k w)) ≡ w
+  whole_same : (k : Kind) → kind_number k ≡ get_or w 0 0 → AllScanned base_bounds w → own_checked k good w ≡ good → Plain k w → Counted k w → splice w 0 (record_words (record_by k w)) ≡ w
   unfolding run record_words record_by own_words
   whole_same Pan1 e b o p n = ap (splice w 0) (join (one e) (join (base_same b) refl)) ∙ run_again w 0 62
-  whole_same Pic1 e b o p n = ap (splice w 0) (join (one e) (join (base_same b) (picture_same (all_good Good picture_bounds w o).1 p n))) ∙ run_again w 0 82
+  whole_same Pic1 e b o p n = ap (splice w 0) (join (one e) (join (base_same b) (picture_same (all_good good picture_bounds w o).1 p n))) ∙ run_again w 0 82
   whole_same Txt1 e b o p n =
-      let (f, s) = all_good (checked_by Good font_bounds w) shadow_bounds w o in
-      ap (splice w 0) (join (one e) (join (base_same b) (text_box_same (all_good Good font_bounds w f).1 s p n))) ∙ run_again w 0 116
-  whole_same Wnd1 e b o p n = ap (splice w 0) (join (one e) (join (base_same b) (window_same (all_good Good window_bounds w o).1 n))) ∙ run_again w 0 93
-  whole_same Ali1 e b o p n = ap (splice w 0) (join (one e) (join (base_same b) (alignment_same (all_good Good alignment_bounds w o).1))) ∙ run_again w 0 66
+      let (f, s) = all_good (checked_by good font_bounds w) shadow_bounds w o in
+      ap (splice w 0) (join (one e) (join (base_same b) (text_box_same (all_good good font_bounds w f).1 s p n))) ∙ run_again w 0 116
+  whole_same Wnd1 e b o p n = ap (splice w 0) (join (one e) (join (base_same b) (window_same (all_good good window_bounds w o).1 n))) ∙ run_again w 0 93
+  whole_same Ali1 e b o p n = ap (splice w 0) (join (one e) (join (base_same b) (alignment_same (all_good good alignment_bounds w o).1))) ∙ run_again w 0 66
 
-  own_good : (k : Kind) (c : Checked) → own_checked k c w ≡ Good → c ≡ Good
+  own_good : (k : Kind) (c : Checked) → own_checked k c w ≡ good → c ≡ good
   own_good Pan1 c e = e
   own_good Pic1 c e = (all_good c picture_bounds w e).0
   own_good Txt1 c e = (all_good c font_bounds w (all_good (checked_by c font_bounds w) shadow_bounds w e).0).0
@@ -184,10 +182,10 @@ module _ (w : List ℕ) where
   own_good Ali1 c e = (all_good c alignment_bounds w e).0
 
   -- THE LAW
-  pub same_words : words_checked w ≡ Good → Plain (kind_of (get_or w 0 0)) w → Counted (kind_of (get_or w 0 0)) w → splice w 0 (record_words (record_of w)) ≡ w
+  pub same_words : words_checked w ≡ good → Plain (kind_of (get_or w 0 0)) w → Counted (kind_of (get_or w 0 0)) w → splice w 0 (record_words (record_of w)) ≡ w
   unfolding words_checked
   same_words g p n =
-      let c = own_good (kind_of (get_or w 0 0)) (checked_by Good base_bounds w) g in
-      let b = (all_good Good base_bounds w c).1 in
-      let o = subst (λ (d : Checked). own_checked (kind_of (get_or w 0 0)) d w ≡ Good) c g in
+      let c = own_good (kind_of (get_or w 0 0)) (checked_by good base_bounds w) g in
+      let b = (all_good good base_bounds w c).1 in
+      let o = subst (λ (d : Checked). own_checked (kind_of (get_or w 0 0)) d w ≡ good) c g in
       whole_same (kind_of (get_or w 0 0)) (kind_word (get_or w 0 0) (below b.0 0 (omega arith))) b o p n

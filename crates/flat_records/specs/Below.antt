@@ -1,33 +1,45 @@
 -- The first word of a record that is not below its bound.
-use Rattle.std.specs.Prelude.{ℕ, zero, suc, ◌+◌, cond, List, [], ◌∷◌, get_or, ltb}
+use Rattle.std.specs.Prelude.{ℕ, zero, suc, ◌+◌, Bool, true, ◌&&◌, cond, List, [], ◌∷◌, get_or, ltb, leb, Result, Ok, Err}
 use Rattle.strip_records.specs.declared.kind.Kind.{Kind}
 use Rattle.strip_records.specs.declared.kind.Kind.TheVariants.{Pan1, Pic1, Txt1, Wnd1, Ali1}
 use Rattle.flat_records.specs.Records.{kind_of}
-use Rattle.flat_records.specs.declared.bounds.Checked.{Checked}
-use Rattle.flat_records.specs.declared.bounds.Checked.TheVariants.{Good, Bad}
+use Rattle.flat_records.specs.declared.bounds.BadWord.{BadWord}
+
+-- what a test tells: all words are below their bounds, or the first that is not
+abbrev pub Checked : Type 0
+Checked = Result (Unit {0}) BadWord
+
+abbrev pub good : Checked
+good = Ok tt
+
+abbrev pub bad : ℕ → Checked
+bad i = Err (record { index = i })
 
 -- the first of n words from i on that is not below the bound
 unfoldable pub scanned : List ℕ → ℕ → ℕ → ℕ → Checked
-scanned w i zero bound = Good
-scanned w i (suc n) bound = cond (ltb (get_or w i 0) bound) (scanned w (i + 1) n bound) (Bad i)
+scanned w i zero bound = good
+scanned w i (suc n) bound = cond (ltb (get_or w i 0) bound) (scanned w (i + 1) n bound) (bad i)
 
 -- the same, unless a word before them is bad
 unfoldable pub or_scanned : Checked → List ℕ → ℕ → ℕ → ℕ → Checked
-or_scanned Good w i n bound = scanned w i n bound
-or_scanned (Bad k) w i n bound = Bad k
+or_scanned (Ok u) w i n bound = scanned w i n bound
+or_scanned (Err b) w i n bound = Err b
 
--- so many words from a place on, and what they stay below
-pub record Bound : Type 0 where
-  pub from : ℕ
-  pub count : ℕ
-  pub bound : ℕ
+-- from a place on so many words, and what they stay below
+abbrev pub Bound : Type 0
+Bound = ℕ × ℕ × ℕ
 
 abbrev pub span : ℕ → ℕ → ℕ → Bound
-span from count bound = record { from = from; count = count; bound = bound }
+span from count bound = (from, count, bound)
 
 abbrev pub checked_by : Checked → List Bound → List ℕ → Checked
 checked_by c [] w = c
-checked_by c (b ∷ bs) w = checked_by (or_scanned c w b.from b.count b.bound) bs w
+checked_by c ((from, count, bound) ∷ bs) w = checked_by (or_scanned c w from count bound) bs w
+
+-- bounds of words that a record has
+abbrev pub all_within : List Bound → Bool
+all_within [] = true
+all_within ((from, count, bound) ∷ bs) = leb (from + count) 116 && all_within bs
 
 -- ---- the bounds of layout.rt. A word that is not named here may be any number: how long a name is, which a write refuses by 9;
 -- and what a write does not read, the counts of quads, lines and frames, the label's place and the label's length
@@ -75,4 +87,4 @@ own_checked Ali1 c w = checked_by c alignment_bounds w
 
 -- THE BOUNDS OF A RECORD: the base's, then those of its kind
 unfoldable pub words_checked : List ℕ → Checked
-words_checked w = own_checked (kind_of (get_or w 0 0)) (checked_by Good base_bounds w) w
+words_checked w = own_checked (kind_of (get_or w 0 0)) (checked_by good base_bounds w) w

@@ -1,19 +1,18 @@
 -- What the types of the code guarantee of a record, and what a read leaves blank: the laws on words coming back ask it.
-use Rattle.std.specs.Prelude.{◌≡◌, ℕ, ◌<◌, List, get_or}
+use Rattle.std.specs.Prelude.{◌≡◌, ℕ, ◌<◌, List, get_or, None, Some}
 use Rattle.picture_fields.specs.Picture.{blank_picture}
 use Rattle.text_box_read.specs.TextBox.{blank_text_box}
-use Rattle.text_box_parts.specs.declared.LineTable.{LineTable}
-use Rattle.text_box_parts.specs.declared.LineTable.TheVariants as lines
 use Rattle.window_read.specs.Window.{blank_window}
 use Rattle.alignment_fields.specs.Alignment.{blank_alignment}
 use Rattle.strip_records.specs.Typed.{Below, TypedRecord}
 use Rattle.strip_records.specs.declared.kind.Kind.{Kind}
 use Rattle.strip_records.specs.declared.kind.Kind.TheVariants.{Pan1, Pic1, Txt1, Wnd1, Ali1}
 use Rattle.strip_records.specs.declared.record.Record.{Record}
+use Rattle.text_box_parts.specs.Parts.{LineTable}
 
 abbrev pub TypedLines : LineTable → Type 0
-TypedLines lines.Absent = Unit {0}
-TypedLines (lines.Present count) = count < 256
+TypedLines None = Unit {0}
+TypedLines (Some count) = count < 256
 
 pub record TypedWords (r : Record) : Type 0 where
   pub fields : TypedRecord r

@@ -3,6 +3,8 @@ ghost use Rattle.std.specs.Prelude.{◌≤◌, length, [], ◌∷◌, ◌++◌, 
 ghost use Rattle.strip_records.specs.Whole.{pan1, pic1, txt1, wnd1, ali1};
 ghost use Rattle.flat.specs.Words.{Stored};
 ghost use Rattle.flat.specs.Base.{base_words};
+ghost use Rattle.pane_read.specs.declared.Pane.{Pane};
+ghost use Rattle.strip_records.specs.declared.record.Record.{Record};
 ghost use Rattle.flat_records.specs.Records.{kind_of, record_words};
 
 use alignment_fields::AlignmentPane;
@@ -15,23 +17,17 @@ use strip_records::kind::Kind;
 use text_box_read::TextBoxPane;
 use window_read::WindowPane;
 
-// An unknown number reads as the last.
+// An unknown number reads as the last. No From<u64>: Kind is of strip_records, and these numbers are of the words alone.
 pub fn kind_of(n: u64) -> Kind
     ensures { result ≡ kind_of n }
 {
-    if n == 0 {
-        return Kind::Pan1;
+    match n {
+        0 => Kind::Pan1,
+        1 => Kind::Pic1,
+        2 => Kind::Txt1,
+        3 => Kind::Wnd1,
+        _ => Kind::Ali1,
     }
-    if n == 1 {
-        return Kind::Pic1;
-    }
-    if n == 2 {
-        return Kind::Txt1;
-    }
-    if n == 3 {
-        return Kind::Wnd1;
-    }
-    Kind::Ali1
 }
 
 // ---- stored: the kind, the base and the kind's own words
@@ -44,41 +40,57 @@ fn put_front(out: &mut [u64], kind: u64, base: Pane)
     base::put_base(out, base);
 }
 
-pub fn put_pan1(out: &mut [u64], base: Pane)
-    requires { 116 ≤ length out.old }
-    ensures { Stored out.old 0 (record_words (pan1 base)) out.new }
-{
-    put_front(out, 0, base);
+// What a kind has beyond the base.
+pub trait Own: Copy {
+    // the record of its kind with a base
+    ghost of_kind: { Pane → Self → Record };
+
+    // The words of that record, from the front on.
+    fn put(self, base: Pane, out: &mut [u64])
+        requires { 116 ≤ length out.old }
+        ensures { Stored out.old 0 (record_words (of_kind base self)) out.new };
 }
 
-pub fn put_pic1(out: &mut [u64], base: Pane, x: PicturePane)
-    requires { 116 ≤ length out.old }
-    ensures { Stored out.old 0 (record_words (pic1 base x)) out.new }
-{
-    put_front(out, 1, base);
-    pic1::put_picture(out, x);
+impl Own for () {
+    ghost of_kind = { λ base own. pan1 base };
+
+    fn put(self, base: Pane, out: &mut [u64]) {
+        put_front(out, 0, base);
+    }
 }
 
-pub fn put_txt1(out: &mut [u64], base: Pane, x: TextBoxPane)
-    requires { 116 ≤ length out.old }
-    ensures { Stored out.old 0 (record_words (txt1 base x)) out.new }
-{
-    put_front(out, 2, base);
-    txt1::put_text_box(out, x);
+impl Own for PicturePane {
+    ghost of_kind = { pic1 };
+
+    fn put(self, base: Pane, out: &mut [u64]) {
+        put_front(out, 1, base);
+        pic1::put_picture(out, self);
+    }
 }
 
-pub fn put_wnd1(out: &mut [u64], base: Pane, x: WindowPane)
-    requires { 116 ≤ length out.old }
-    ensures { Stored out.old 0 (record_words (wnd1 base x)) out.new }
-{
-    put_front(out, 3, base);
-    wnd1::put_window(out, x);
+impl Own for TextBoxPane {
+    ghost of_kind = { txt1 };
+
+    fn put(self, base: Pane, out: &mut [u64]) {
+        put_front(out, 2, base);
+        txt1::put_text_box(out, self);
+    }
 }
 
-pub fn put_ali1(out: &mut [u64], base: Pane, x: AlignmentPane)
-    requires { 116 ≤ length out.old }
-    ensures { Stored out.old 0 (record_words (ali1 base x)) out.new }
-{
-    put_front(out, 4, base);
-    ali1::put_alignment(out, x);
+impl Own for WindowPane {
+    ghost of_kind = { wnd1 };
+
+    fn put(self, base: Pane, out: &mut [u64]) {
+        put_front(out, 3, base);
+        wnd1::put_window(out, self);
+    }
+}
+
+impl Own for AlignmentPane {
+    ghost of_kind = { ali1 };
+
+    fn put(self, base: Pane, out: &mut [u64]) {
+        put_front(out, 4, base);
+        ali1::put_alignment(out, self);
+    }
 }

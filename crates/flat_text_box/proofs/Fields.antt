@@ -11,11 +11,10 @@ use Rattle.ui2d.specs.declared.Vector2f.{Vector2f}
 use Rattle.ui2d.specs.declared.Color4u8.{Color4u8}
 use Rattle.text_box_read.specs.declared.FontMeasure.{FontMeasure}
 use Rattle.text_box_parts.specs.declared.Text.{Text}
-use Rattle.text_box_parts.specs.declared.Label.{Label}
-use Rattle.text_box_parts.specs.declared.LineTable.{LineTable}
 use Rattle.text_box_read.specs.declared.TextBoxPane.{TextBoxPane}
 use Rattle.flat.specs.Words.{half_at, byte_at, float_at, vector2_at, quadruple_at}
 use Rattle.flat_text_box.specs.TextBox.{origin_at, text_flags_at, measure_at, text_at, label_at, lines_at, text_box_at}
+use Rattle.text_box_parts.specs.Parts.{Label, LineTable}
 
 pub text_box_read : (w : List ℕ) (o : TextPosition) (al : TextAlignment) (f : TextPaneFlags) (it : Binary32) (ft : Color4u8) (fb : Color4u8) (m : FontMeasure) (cs : Binary32) (ls : Binary32) (st : Vector2f) (ss : Vector2f) (sc : Color4u8) (sb : Color4u8) (si : Binary32) (x : Text) (la : Label) (li : LineTable)
     → o ≡ origin_at w → al ≡ alignment_of (byte_at w 68) → f ≡ text_flags_at w → it ≡ float_at w 86

@@ -9,13 +9,11 @@ use Rattle.text_box_read.specs.declared.FontMeasure.{FontMeasure}
 use Rattle.text_box_read.specs.declared.FontMeasure.TheVariants as measure
 use Rattle.text_box_parts.specs.declared.Text.{Text}
 use Rattle.text_box_parts.specs.declared.Text.TheVariants as text
-use Rattle.text_box_parts.specs.declared.Label.{Label}
-use Rattle.text_box_parts.specs.declared.Label.TheVariants as label
-use Rattle.text_box_parts.specs.declared.LineTable.{LineTable}
-use Rattle.text_box_parts.specs.declared.LineTable.TheVariants as lines
 use Rattle.text_box_read.specs.declared.TextBoxPane.{TextBoxPane}
 use Rattle.flat.specs.Words.{color_words}
 use Rattle.flat_text_box.specs.TextBox.{measure_words, font_words, shadow_words, text_words, label_words, lines_words, parts_words, text_box_words}
+use Rattle.text_box_parts.specs.Parts.{Label, LineTable}
+use Rattle.std.specs.Prelude.{None, Some}
 
 pub measure_end : (m : FontMeasure) → 83 + length (measure_words m) ≡ 86
 measure_end (measure.Size v) = refl
@@ -31,12 +29,12 @@ text_end tilt text.Absent = refl
 text_end tilt text.Present = refl
 
 pub label_end : (x : Label) → 111 + length (label_words x) ≡ 114
-label_end label.Absent = refl
-label_end (label.At place long) = refl
+label_end None = refl
+label_end (Some span) = refl
 
 pub lines_long : (x : LineTable) → length (lines_words x) ≡ 2
-lines_long lines.Absent = refl
-lines_long (lines.Present count) = refl
+lines_long None = refl
+lines_long (Some count) = refl
 
 parts_long : (x : TextBoxPane) → length (parts_words x) ≡ 7
 parts_long x =

@@ -1,5 +1,5 @@
 -- The words that a text box has beyond the base, from OWN on, and back. Places are those of layout.rt.
-use Rattle.std.specs.Prelude.{ℕ, cond, List, [], ◌∷◌, ◌++◌, get_or}
+use Rattle.std.specs.Prelude.{ℕ, cond, List, [], ◌∷◌, ◌++◌, get_or, None, Some}
 use Rattle.flags.specs.Enums.{horizontal_of, horizontal_number, vertical_of, vertical_number, alignment_of, alignment_number}
 use Rattle.flags.specs.declared.position.TextPosition.{TextPosition}
 use Rattle.flags.specs.declared.text.TextPaneFlags.{TextPaneFlags}
@@ -8,12 +8,9 @@ use Rattle.text_box_read.specs.declared.FontMeasure.{FontMeasure}
 use Rattle.text_box_read.specs.declared.FontMeasure.TheVariants as measure
 use Rattle.text_box_parts.specs.declared.Text.{Text}
 use Rattle.text_box_parts.specs.declared.Text.TheVariants as text
-use Rattle.text_box_parts.specs.declared.Label.{Label}
-use Rattle.text_box_parts.specs.declared.Label.TheVariants as label
-use Rattle.text_box_parts.specs.declared.LineTable.{LineTable}
-use Rattle.text_box_parts.specs.declared.LineTable.TheVariants as lines
 use Rattle.text_box_read.specs.declared.TextBoxPane.{TextBoxPane}
 use Rattle.flat.specs.Words.{flag_word, color_words, byte_at, half_at, flag_at, float_at, vector2_at, quadruple_at}
+use Rattle.text_box_parts.specs.Parts.{Label, LineTable}
 
 -- TEXT_BUFFER_SIZE, TEXT_LENGTH, TEXT_MATERIAL, FONT, ORIGIN, TEXT_ALIGNMENT
 abbrev pub indices_words : TextBoxPane → List ℕ
@@ -76,13 +73,13 @@ text_words tilt text.Present = tilt.bits ∷ 1 ∷ []
 
 -- LABEL_PRESENT, LABEL_PLACE, LABEL_LENGTH
 abbrev pub label_words : Label → List ℕ
-label_words label.Absent = 0 ∷ 0 ∷ 0 ∷ []
-label_words (label.At place long) = 1 ∷ place ∷ long ∷ []
+label_words None = 0 ∷ 0 ∷ 0 ∷ []
+label_words (Some span) = 1 ∷ span.place ∷ span.length ∷ []
 
 -- LINES_PRESENT, LINES_COUNT
 abbrev pub lines_words : LineTable → List ℕ
-lines_words lines.Absent = 0 ∷ 0 ∷ []
-lines_words (lines.Present count) = 1 ∷ count ∷ []
+lines_words None = 0 ∷ 0 ∷ []
+lines_words (Some count) = 1 ∷ count ∷ []
 
 abbrev pub parts_words : TextBoxPane → List ℕ
 parts_words x = text_words x.shadow_italic_tilt x.text ++ (label_words x.label ++ lines_words x.line_table)
@@ -119,11 +116,11 @@ text_at w = cond (flag_at w 110) text.Present text.Absent
 
 -- place and length may be any numbers: a write does not read them
 abbrev pub label_at : List ℕ → Label
-label_at w = cond (flag_at w 111) (label.At (get_or w 112 0) (get_or w 113 0)) label.Absent
+label_at w = cond (flag_at w 111) (Some (record { place = get_or w 112 0; length = get_or w 113 0 })) None
 
 -- the count by its low eight bits, whatever its word is: a write does not read it
 abbrev pub lines_at : List ℕ → LineTable
-lines_at w = cond (flag_at w 114) (lines.Present (byte_at w 115)) lines.Absent
+lines_at w = cond (flag_at w 114) (Some (byte_at w 115)) None
 
 unfoldable pub text_box_at : List ℕ → TextBoxPane
 text_box_at w = record {

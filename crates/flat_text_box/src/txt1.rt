@@ -8,7 +8,7 @@ use flags::position::{HorizontalPosition, TextPosition, VerticalPosition};
 use flags::text::{TextAlignment, TextPaneFlags};
 use flat::{layout, words};
 use floats::Binary32;
-use text_box_parts::{Label, LineTable, Text};
+use text_box_parts::{Span, Text};
 use text_box_read::{FontMeasure, TextBoxPane};
 
 // ---- stored
@@ -26,9 +26,9 @@ fn put_indices(out: &mut [u64], x: TextBoxPane)
         x.text_length as u64,
         x.material_index as u64,
         x.font_index as u64,
-        horizontal.number() as u64,
-        vertical.number() as u64,
-        alignment.number() as u64,
+        u8::from(horizontal) as u64,
+        u8::from(vertical) as u64,
+        u8::from(alignment) as u64,
     ];
     words::store(out, layout::TEXT_BUFFER_SIZE, &words);
 }
@@ -60,16 +60,11 @@ fn put_measure(out: &mut [u64], m: FontMeasure)
     requires { 116 ≤ length out.old }
     ensures { Stored out.old 83 (measure_words m) out.new }
 {
-    match m {
-        FontMeasure::Size(v) => {
-            let words = [0u64, v.x.bits as u64, v.y.bits as u64];
-            words::store(out, layout::MEASURE_KIND, &words);
-        }
-        FontMeasure::Scale(v) => {
-            let words = [1u64, v.x.bits as u64, v.y.bits as u64];
-            words::store(out, layout::MEASURE_KIND, &words);
-        }
-    }
+    let words = match m {
+        FontMeasure::Size(v) => [0u64, v.x.bits as u64, v.y.bits as u64],
+        FontMeasure::Scale(v) => [1, v.x.bits as u64, v.y.bits as u64],
+    };
+    words::store(out, layout::MEASURE_KIND, &words);
 }
 
 fn put_font(out: &mut [u64], x: TextBoxPane)
@@ -110,48 +105,37 @@ fn put_text(out: &mut [u64], tilt: Binary32, x: Text)
     requires { 116 ≤ length out.old }
     ensures { Stored out.old 109 (text_words tilt x) out.new }
 {
-    match x {
-        Text::Absent => {
-            let words = [tilt.bits as u64, 0u64];
-            words::store(out, layout::SHADOW_ITALIC_TILT, &words);
-        }
-        Text::Present => {
-            let words = [tilt.bits as u64, 1u64];
-            words::store(out, layout::SHADOW_ITALIC_TILT, &words);
-        }
-    }
+    let present = match x {
+        Text::Absent => 0u64,
+        Text::Present => 1,
+    };
+    words::store(
+        out,
+        layout::SHADOW_ITALIC_TILT,
+        &[tilt.bits as u64, present],
+    );
 }
 
-fn put_label(out: &mut [u64], x: Label)
+fn put_label(out: &mut [u64], x: Option<Span>)
     requires { 116 ≤ length out.old }
     ensures { Stored out.old 111 (label_words x) out.new }
 {
-    match x {
-        Label::Absent => {
-            let words = [0u64, 0u64, 0u64];
-            words::store(out, layout::LABEL_PRESENT, &words);
-        }
-        Label::At { place, length } => {
-            let words = [1u64, place as u64, length as u64];
-            words::store(out, layout::LABEL_PRESENT, &words);
-        }
-    }
+    let words = match x {
+        None => [0u64, 0, 0],
+        Some(Span { place, length }) => [1, place as u64, length as u64],
+    };
+    words::store(out, layout::LABEL_PRESENT, &words);
 }
 
-fn put_lines(out: &mut [u64], x: LineTable)
+fn put_lines(out: &mut [u64], x: Option<u8>)
     requires { 116 ≤ length out.old }
     ensures { Stored out.old 114 (lines_words x) out.new }
 {
-    match x {
-        LineTable::Absent => {
-            let words = [0u64, 0u64];
-            words::store(out, layout::LINES_PRESENT, &words);
-        }
-        LineTable::Present { count } => {
-            let words = [1u64, count as u64];
-            words::store(out, layout::LINES_PRESENT, &words);
-        }
-    }
+    let words = match x {
+        None => [0u64, 0],
+        Some(count) => [1, count as u64],
+    };
+    words::store(out, layout::LINES_PRESENT, &words);
 }
 
 fn put_parts(out: &mut [u64], x: TextBoxPane)
@@ -185,8 +169,8 @@ fn origin_of(w: &[u64]) -> TextPosition
 {
     let x = (w[layout::ORIGIN] % 256) as u8;
     let y = (w[layout::ORIGIN + 1] % 256) as u8;
-    let horizontal = HorizontalPosition::decode(x);
-    let vertical = VerticalPosition::decode(y);
+    let horizontal = HorizontalPosition::from(x);
+    let vertical = VerticalPosition::from(y);
     TextPosition {
         horizontal,
         vertical,
@@ -198,7 +182,7 @@ fn alignment_of(w: &[u64]) -> TextAlignment
     ensures { result ≡ alignment_of (byte_at w.now 68) }
 {
     let number = (w[layout::TEXT_ALIGNMENT] % 256) as u8;
-    TextAlignment::decode(number)
+    TextAlignment::from(number)
 }
 
 fn flags_of(w: &[u64]) -> TextPaneFlags
@@ -246,30 +230,28 @@ pub fn text_of(w: &[u64]) -> Text
     }
 }
 
-pub fn label_of(w: &[u64]) -> Label
+pub fn label_of(w: &[u64]) -> Option<Span>
     requires { 116 ≤ length w.now }
     ensures { result ≡ label_at w.now }
 {
     if w[layout::LABEL_PRESENT] == 1 {
-        Label::At {
+        Some(Span {
             place: w[layout::LABEL_PLACE] as usize,
             length: w[layout::LABEL_LENGTH] as usize,
-        }
+        })
     } else {
-        Label::Absent
+        None
     }
 }
 
-pub fn lines_of(w: &[u64]) -> LineTable
+pub fn lines_of(w: &[u64]) -> Option<u8>
     requires { 116 ≤ length w.now }
     ensures { result ≡ lines_at w.now }
 {
     if w[layout::LINES_PRESENT] == 1 {
-        LineTable::Present {
-            count: (w[layout::LINES_COUNT] % 256) as u8,
-        }
+        Some((w[layout::LINES_COUNT] % 256) as u8)
     } else {
-        LineTable::Absent
+        None
     }
 }
 

@@ -5,16 +5,11 @@ use mathlib.Core.Bool.{Bool}
 use mathlib.Core.List.{List}
 use lib.ListN.{length}
 use Rattle.core_read.specs.declared.cursor.ByteOrder.{ByteOrder}
-use Rattle.core_read.specs.declared.cursor.Place.{Place}
 use Rattle.picture.specs.Body.{picture_write_checked, picture_written, picture_output, body_length as pictureBodyLength, encode_body as encodePictureBody}
 use Rattle.picture_fields.specs.Picture.{picture_length, encode_picture}
 use Rattle.text_box.specs.Body.{text_box_write_checked, text_box_written, text_box_output, encode_body as encodeTextBoxBody}
 use Rattle.text_box_checks.specs.Checks.{bit_bad, text_box_checked}
-use Rattle.text_box_parts.specs.Parts.{label_part, line_part}
-use Rattle.text_box_parts.specs.declared.Label.{Label}
-use Rattle.text_box_parts.specs.declared.Label.TheVariants as label
-use Rattle.text_box_parts.specs.declared.LineTable.{LineTable}
-use Rattle.text_box_parts.specs.declared.LineTable.TheVariants as lines
+use Rattle.text_box_parts.specs.Parts.{label_part, line_part, Label, LineTable}
 use Rattle.text_box_read.specs.declared.TextBoxPane.{TextBoxPane}
 use Rattle.text_box_write.specs.Fixed.{encode_indices, encode_style, encode_font, encode_shadow, encode_fixed}
 use Rattle.text_box_write.specs.Written.{encode_text_box, text_box_length}
@@ -27,21 +22,23 @@ use Rattle.strip_records.specs.declared.record.Record.{Record}
 use Rattle.strip_write.specs.Write.{body_length, encode_body, own_length_checked, own_name_checked, own_checked, section, write_checked, write_answer, write_output}
 use Rattle.flat_records.proofs.AlikeRecords.{plain_label, plain_lines, plain_text_box, plain}
 use Rattle.flat_write.specs.Bodies.{body_answer, body_output}
+use Rattle.core_read.specs.Taken.{Place}
+use Rattle.std.specs.Prelude.{None, Some}
 
 -- ---- a text box
 
 label_unread : (x : Label) (bytes : List ℕ) → label_part (plain_label x) bytes ≡ label_part x bytes
-label_unread label.Absent bytes = refl
-label_unread (label.At place long) bytes = refl
+label_unread None bytes = refl
+label_unread (Some span) bytes = refl
 
 lines_unread : (x : LineTable) (l : List ℕ) → line_part (plain_lines x) l ≡ line_part x l
-lines_unread lines.Absent l = refl
-lines_unread (lines.Present count) l = refl
+lines_unread None l = refl
+lines_unread (Some count) l = refl
 
 bit_unread : (x : LineTable) (line : Bool) → bit_bad (plain_lines x) line ≡ bit_bad x line
 unfolding bit_bad
-bit_unread lines.Absent line = refl
-bit_unread (lines.Present count) line = refl
+bit_unread None line = refl
+bit_unread (Some count) line = refl
 
 module _ (x : TextBoxPane) (units l name : List ℕ) where
   length_unread : (body : ℕ) → text_box_length body (plain_text_box x) units l name ≡ text_box_length body x units l name

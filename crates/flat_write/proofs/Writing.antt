@@ -4,7 +4,6 @@ use Prim.Native.Nat.{ℕ}
 use mathlib.Core.List.{List, []}
 use lib.ListN.{length}
 use Rattle.core_read.specs.declared.cursor.ByteOrder.{ByteOrder}
-use Rattle.core_checks.specs.declared.checks.Written.{Written}
 use Rattle.pane.specs.Body.{pane_written, pane_output}
 use Rattle.pane_read.specs.declared.Pane.{Pane}
 use Rattle.picture.specs.Body.{picture_written, picture_output}
@@ -24,6 +23,7 @@ use Rattle.flat_kinds.specs.Own.{picture_at, window_at, alignment_at}
 use Rattle.flat_text_box.specs.TextBox.{text_box_at}
 use Rattle.flat_records.specs.Records.{record_by}
 use Rattle.flat_write.specs.Bodies.{body_answer, body_output}
+use Rattle.core_checks.specs.Checks.{Written}
 
 module _ (order : ByteOrder) (o : List ℕ) (p : ℕ) (v : Written) (o' : List ℕ) where
   -- a write into o at p answered v and left o'

@@ -1,7 +1,6 @@
 -- The body of a record as its kind's body call writes it.
 use Rattle.std.specs.Prelude.{ℕ, List}
 use Rattle.core_read.specs.declared.cursor.ByteOrder.{ByteOrder}
-use Rattle.core_checks.specs.declared.checks.Written.{Written}
 use Rattle.pane.specs.Body.{pane_written, pane_output}
 use Rattle.picture.specs.Body.{picture_written, picture_output}
 use Rattle.text_box.specs.Body.{text_box_written, text_box_output}
@@ -10,6 +9,7 @@ use Rattle.alignment.specs.Body.{alignment_written, alignment_output}
 use Rattle.strip_records.specs.Whole.{Whole}
 use Rattle.strip_records.specs.declared.kind.Kind.{Kind}
 use Rattle.strip_records.specs.declared.kind.Kind.TheVariants.{Pan1, Pic1, Txt1, Wnd1, Ali1}
+use Rattle.core_checks.specs.Checks.{Written}
 
 -- the body of a record at B, as its body call writes it
 unfoldable pub body_answer : Kind → Whole → ℕ → ℕ → Written

@@ -4,8 +4,8 @@ ghost use Rattle.strip_records.specs.Whole.{whole};
 ghost use Rattle.flat_records.specs.Records.{record_by};
 ghost use Rattle.flat_write.specs.Bodies.{body_answer, body_output};
 
-use core_checks::checks::Written;
 use core_read::cursor::ByteOrder;
+use core_read::error::Refusal;
 use flat::base;
 use flat_kinds::{ali1, pic1, wnd1};
 use flat_text_box::txt1;
@@ -23,7 +23,7 @@ pub fn write(
     label: &[u8],
     out: &mut [u8],
     place: usize,
-) -> Written
+) -> Result<usize, Refusal>
     requires { 116 ≤ length words.now }
     ensures value { result ≡ body_answer kind (whole (record_by kind words.now) quads.now units.now lines.now frames.now label.now) (length out.old) place }
     ensures out_after { out.new ≡ body_output order kind (whole (record_by kind words.now) quads.now units.now lines.now frames.now label.now) out.old place }

@@ -1,24 +1,20 @@
 -- Every pattern of 32 bits comes back through its value.
-use mathlib.Core.Path.{◌≡◌, refl, sym, subst, ap, ◌∙◌}
-use mathlib.Core.Bool.{Bool, true, false, not, cond}
+use mathlib.Core.Path.{◌≡◌, refl, sym, subst, ap}
+use mathlib.Core.Bool.{Bool, true, false, cond}
 use Prim.Native.Nat.{ℕ, ◌<◌, ◌*◌, ◌^◌}
 use lib.Dec.{T}
-use lib.Ieee.{Float, nan, inf, fin, ne, is_nan, binary32, nan_bits, of_bits, to_bits, top}
+use lib.Ieee.{Float, nan, inf, fin, is_nan, binary32, nan_bits, of_bits, to_bits, top}
 use lib.Ieee.Bits.{nan_bits_is, to_bits-of_bits}
-use lib.Ieee.Compare.{differs_from_itself, nan_differs}
 use Rattle.floats.specs.Floats.{float, value_of, bits_of}
 use Rattle.floats.specs.declared.Binary32.{Binary32}
 use Rattle.floats.specs.declared.FloatValue.TheVariants.{Number, NotANumber}
 
--- what differs from itself is the NaN, and nothing else does
-pub only_nan : (x : Float) → ne x x ≡ true → x ≡ nan
-only_nan x differs = differs_from_itself x (subst T (sym differs) tt)
-
-pub no_nan : (x : Float) → ne x x ≡ false → T (not (is_nan x))
+-- a test for a NaN tells the NaN of the logic
+pub only_nan : (x : Float) → is_nan x ≡ true → x ≡ nan
 unfolding is_nan
-no_nan nan h = absurd (subst T (sym nan_differs ∙ h) tt)
-no_nan (inf s) h = tt
-no_nan (fin s m e) h = tt
+only_nan nan h = refl
+only_nan (inf s) h = absurd (subst T (sym h) tt)
+only_nan (fin s m e) h = absurd (subst T (sym h) tt)
 
 -- the pattern that stands for the NaN of the logic
 pub bits_nan : (x : Float) → x ≡ nan → float 2143289344 ≡ bits_of (Number x)

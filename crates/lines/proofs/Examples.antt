@@ -3,30 +3,31 @@ use mathlib.Core.Path.{◌≡◌, refl, sym}
 use native.Mathlib.Omega.{arith}
 use mathlib.Core.List.{[], ◌∷◌}
 use Rattle.core_read.specs.declared.error.Refusal.TheVariants.{UnexpectedEof}
-use Rattle.strip_header.specs.declared.Section.TheVariants.{End, Passed, Pane, Refused}
+use Rattle.strip_header.specs.declared.Section.TheVariants.{End, Passed, Pane}
 use Rattle.escapes.specs.Escaped.{hex_digit}
 use Rattle.lines.specs.Answers.{ascii, figure, refusal_text, section_text, section_line}
 use Rattle.lines.specs.Decimal.{decimal_in, decimal}
 use Rattle.lines.specs.Hexadecimal.{hexadecimal}
 use Rattle.lines.proofs.Decimals.{fewest_decimal}
+use Rattle.std.specs.Prelude.{Err, Ok}
 
 nought : decimal 0 ≡ ascii "0"
 unfolding decimal decimal_in
 nought = refl
 
-ended : section_line End ≡ ascii "end\n"
+ended : section_line (Ok End) ≡ ascii "end\n"
 unfolding section_line section_text
 ended = refl
 
-passed : section_line (Passed 100) ≡ ascii "pass 100\n"
+passed : section_line (Ok (Passed 100)) ≡ ascii "pass 100\n"
 unfolding section_line section_text figure decimal decimal_in
 passed = refl
 
-pane : section_line (Pane 84 96 168) ≡ ascii "pane 84 96\n"
+pane : section_line (Ok (Pane 84 96 168)) ≡ ascii "pane 84 96\n"
 unfolding section_line section_text figure decimal decimal_in
 pane = refl
 
-cut : section_line (Refused (UnexpectedEof 8 1)) ≡ ascii "no 4 8 1\n"
+cut : section_line (Err (UnexpectedEof 8 1)) ≡ ascii "no 4 8 1\n"
 unfolding section_line section_text refusal_text figure decimal decimal_in
 cut = refl
 

@@ -4,7 +4,6 @@ use Prim.Native.Nat.{ℕ}
 use mathlib.Core.List.{List, ◌++◌}
 use lib.ListN.{length, take}
 use Rattle.core_read.specs.declared.cursor.ByteOrder.TheVariants.{Little}
-use Rattle.core_checks.specs.declared.checks.Written.{Written}
 use Rattle.pane_read.specs.declared.Pane.{Pane}
 use Rattle.picture_fields.specs.declared.PicturePane.{PicturePane}
 use Rattle.text_box_caption.specs.Caption.{label_of}
@@ -23,6 +22,7 @@ use Rattle.strip.specs.Same.{filled, read_whole}
 use Rattle.lines.specs.Answers.{ascii, section_text}
 use Rattle.lines.specs.Answered.{full_lists}
 use Rattle.lines.specs.Back.{written_text, back_in, back_after, back_line}
+use Rattle.core_checks.specs.Checks.{Written}
 
 -- ---- a write looks at the label of a text box alone, so that it may be handed with a record of any kind
 

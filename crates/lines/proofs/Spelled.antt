@@ -13,6 +13,7 @@ use Rattle.core_read.specs.Bytes.{splice}
 use Rattle.core_write.proofs.Puts.{length_splice, splice_read}
 use Rattle.digits.specs.Digits.{value_of, blank_line, half_put, refused, line_after, bytes_after, even_line, before_feed, line_after_all, bytes_after_all}
 use Rattle.digits.specs.declared.Line.{Line}
+use Rattle.std.specs.Prelude.{Some}
 use Rattle.escapes.specs.Escaped.{hex_digit, hex_digits}
 use Rattle.lines.specs.Answers.{section_line}
 use Rattle.lines.specs.Hexadecimal.{hexadecimal}
@@ -22,33 +23,33 @@ use Rattle.lines.specs.Back.{back_line, back_to}
 
 -- ---- a digit
 
-value_by : (v : ℕ) → v < 16 → Dec (v < 10) → value_of (hex_digit v) ≡ v
+value_by : (v : ℕ) → v < 16 → Dec (v < 10) → value_of (hex_digit v) ≡ Some v
 unfolding value_of hex_digit
 value_by v h (yes l) =
     let d : 48 + v < 58 = omega arith in
-    simp (lt-ltb v 10 l, le-ltb (48 + v) 48 (omega arith), le-leb (48 + v) 57 (omega arith)) (omega arith)
+    simp (lt-ltb v 10 l, le-ltb (48 + v) 48 (omega arith), le-leb (48 + v) 57 (omega arith)) (ap Some (omega arith))
 value_by v h (no l) =
     let g : 10 ≤ v = omega arith in
-    simp (le-ltb v 10 g, le-ltb (55 + v) 48 (omega arith), lt-leb (55 + v) 57 (omega arith), le-ltb (55 + v) 65 (omega arith), le-leb (55 + v) 70 (omega arith)) (omega arith)
+    simp (le-ltb v 10 g, le-ltb (55 + v) 48 (omega arith), lt-leb (55 + v) 57 (omega arith), le-ltb (55 + v) 65 (omega arith), le-leb (55 + v) 70 (omega arith)) (ap Some (omega arith))
 
-value_digit : (v : ℕ) → v < 16 → value_of (hex_digit v) ≡ v
+value_digit : (v : ℕ) → v < 16 → value_of (hex_digit v) ≡ Some v
 value_digit v h = value_by v h (dec_lt v 10)
 
 -- a line of so many digits, none of them bad
-abbrev line_at : ℕ → Bool → Line
-line_at d g = record { digits = d; begun = g; bad = false }
+abbrev line_at : ℕ → Line
+line_at d = record { digits = d; bad = false }
 
-taken : (d v : ℕ) (g : Bool) → v < 16 → d < 8192 → refused (line_at d g) (hex_digit v) ≡ false
+taken : (d v : ℕ) → v < 16 → d < 8192 → refused (line_at d) (hex_digit v) ≡ false
 unfolding refused
-taken d v g h i = simp (value_digit v h, le-ltb 15 v (omega arith), lt-leb 8192 d i)
+taken d v h i = simp (value_digit v h, lt-leb 8192 d i)
 
-line_taken : (d v : ℕ) (g : Bool) → v < 16 → d < 8192 → line_after (line_at d g) (hex_digit v) ≡ line_at (d + 1) true
+line_taken : (d v : ℕ) → v < 16 → d < 8192 → line_after (line_at d) (hex_digit v) ≡ line_at (d + 1)
 unfolding line_after
-line_taken d v g h i = simp (taken d v g h i)
+line_taken d v h i = simp (taken d v h i)
 
-bytes_taken : (o : List ℕ) (d v : ℕ) (g : Bool) → v < 16 → d < 8192 → bytes_after o (line_at d g) (hex_digit v) ≡ half_put o (d / 2) (eqb (d % 2) 0) v
+bytes_taken : (o : List ℕ) (d v : ℕ) → v < 16 → d < 8192 → bytes_after o (line_at d) (hex_digit v) ≡ half_put o (d / 2) (eqb (d % 2) 0) v
 unfolding bytes_after
-bytes_taken o d v g h i = simp (taken d v g h i, value_digit v h)
+bytes_taken o d v h i = simp (taken d v h i, value_digit v h)
 
 high_half : (o : List ℕ) (i d v : ℕ) → d ≡ 2 * i → i < length o → half_put o (d / 2) (eqb (d % 2) 0) v ≡ set o i (v * 16)
 unfolding half_put
@@ -67,44 +68,44 @@ low_half o i d v w e h =
 -- ---- a byte, and many
 
 -- a byte's two digits, and a text after them
-byte_line : (d x : ℕ) (g : Bool) (t : List ℕ) → x < 256 → d + 1 < 8192 → line_after_all (line_at d g) (hex_digits x ++ t) ≡ line_after_all (line_at (d + 1 + 1) true) t
+byte_line : (d x : ℕ) (t : List ℕ) → x < 256 → d + 1 < 8192 → line_after_all (line_at d) (hex_digits x ++ t) ≡ line_after_all (line_at (d + 1 + 1)) t
 unfolding line_after_all
-byte_line d x g t h i =
-    ap (λ (l : Line). line_after_all (line_after l (hex_digit (x % 16))) t) (line_taken d (x / 16 % 16) g (omega arith) (omega arith))
-    ∙ ap (λ (l : Line). line_after_all l t) (line_taken (d + 1) (x % 16) true (omega arith) i)
+byte_line d x t h i =
+    ap (λ (l : Line). line_after_all (line_after l (hex_digit (x % 16))) t) (line_taken d (x / 16 % 16) (omega arith) (omega arith))
+    ∙ ap (λ (l : Line). line_after_all l t) (line_taken (d + 1) (x % 16) (omega arith) i)
 
-byte_bytes : (o : List ℕ) (i d x : ℕ) (g : Bool) → x < 256 → d ≡ 2 * i → d + 1 < 8192 → i < length o
-    → bytes_after (bytes_after o (line_at d g) (hex_digit (x / 16 % 16))) (line_at (d + 1) true) (hex_digit (x % 16)) ≡ set o i x
-byte_bytes o i d x g h e m r =
+byte_bytes : (o : List ℕ) (i d x : ℕ) → x < 256 → d ≡ 2 * i → d + 1 < 8192 → i < length o
+    → bytes_after (bytes_after o (line_at d) (hex_digit (x / 16 % 16))) (line_at (d + 1)) (hex_digit (x % 16)) ≡ set o i x
+byte_bytes o i d x h e m r =
     let whole : x / 16 % 16 * 16 + x % 16 ≡ x = omega arith in
-    ap (λ (s : List ℕ). bytes_after s (line_at (d + 1) true) (hex_digit (x % 16))) (bytes_taken o d (x / 16 % 16) g (omega arith) (omega arith) ∙ high_half o i d (x / 16 % 16) e r)
-    ∙ bytes_taken (set o i (x / 16 % 16 * 16)) (d + 1) (x % 16) true (omega arith) m
+    ap (λ (s : List ℕ). bytes_after s (line_at (d + 1)) (hex_digit (x % 16))) (bytes_taken o d (x / 16 % 16) (omega arith) (omega arith) ∙ high_half o i d (x / 16 % 16) e r)
+    ∙ bytes_taken (set o i (x / 16 % 16 * 16)) (d + 1) (x % 16) (omega arith) m
     ∙ low_half o i (d + 1) (x / 16 % 16) (x % 16) (omega arith) r
     ∙ ap (set o i) whole
 
-byte_all : (o : List ℕ) (i d x : ℕ) (g : Bool) (t : List ℕ) → x < 256 → d ≡ 2 * i → d + 1 < 8192 → i < length o
-    → bytes_after_all o (line_at d g) (hex_digits x ++ t) ≡ bytes_after_all (set o i x) (line_at (d + 1 + 1) true) t
+byte_all : (o : List ℕ) (i d x : ℕ) (t : List ℕ) → x < 256 → d ≡ 2 * i → d + 1 < 8192 → i < length o
+    → bytes_after_all o (line_at d) (hex_digits x ++ t) ≡ bytes_after_all (set o i x) (line_at (d + 1 + 1)) t
 unfolding bytes_after_all
-byte_all o i d x g t h e m r =
-    let first = line_taken d (x / 16 % 16) g (omega arith) (omega arith) in
-    let second = line_taken (d + 1) (x % 16) true (omega arith) m in
-    rw (first, second, byte_bytes o i d x g h e m r)
+byte_all o i d x t h e m r =
+    let first = line_taken d (x / 16 % 16) (omega arith) (omega arith) in
+    let second = line_taken (d + 1) (x % 16) (omega arith) m in
+    rw (first, second, byte_bytes o i d x h e m r)
 
-line_all : (s : List ℕ) (d : ℕ) (g : Bool) → Below 256 s → d + 2 * length s ≤ 8192
-    → ((line_after_all (line_at d g) (hexadecimal s)).digits ≡ d + 2 * length s) × ((line_after_all (line_at d g) (hexadecimal s)).bad ≡ false)
+line_all : (s : List ℕ) (d : ℕ) → Below 256 s → d + 2 * length s ≤ 8192
+    → ((line_after_all (line_at d) (hexadecimal s)).digits ≡ d + 2 * length s) × ((line_after_all (line_at d) (hexadecimal s)).bad ≡ false)
 unfolding Below hexadecimal line_after_all
-line_all [] d g b m = (omega arith, refl)
-line_all (x ∷ s) d g b m =
-    let k = line_all s (d + 1 + 1) true b.1 (omega arith) in
-    rw (byte_line d x g (hexadecimal s) b.0 (omega arith)) (k.0 ∙ omega arith, k.1)
+line_all [] d b m = (omega arith, refl)
+line_all (x ∷ s) d b m =
+    let k = line_all s (d + 1 + 1) b.1 (omega arith) in
+    rw (byte_line d x (hexadecimal s) b.0 (omega arith)) (k.0 ∙ omega arith, k.1)
 
-bytes_all : (s o : List ℕ) (i d : ℕ) (g : Bool) → Below 256 s → d ≡ 2 * i → d + 2 * length s ≤ 8192 → i + length s ≤ length o
-    → bytes_after_all o (line_at d g) (hexadecimal s) ≡ splice o i s
+bytes_all : (s o : List ℕ) (i d : ℕ) → Below 256 s → d ≡ 2 * i → d + 2 * length s ≤ 8192 → i + length s ≤ length o
+    → bytes_after_all o (line_at d) (hexadecimal s) ≡ splice o i s
 unfolding Below hexadecimal bytes_after_all splice
-bytes_all [] o i d g b e m r = refl
-bytes_all (x ∷ s) o i d g b e m r =
-    byte_all o i d x g (hexadecimal s) b.0 e (omega arith) (omega arith)
-    ∙ bytes_all s (set o i x) (i + 1) (d + 1 + 1) true b.1 (omega arith) (omega arith) (simp length-set (omega arith))
+bytes_all [] o i d b e m r = refl
+bytes_all (x ∷ s) o i d b e m r =
+    byte_all o i d x (hexadecimal s) b.0 e (omega arith) (omega arith)
+    ∙ bytes_all s (set o i x) (i + 1) (d + 1 + 1) b.1 (omega arith) (omega arith) (simp length-set (omega arith))
 
 -- ---- the line feed
 
@@ -131,10 +132,10 @@ module _ (s o : List ℕ) (b : Below 256 s) (short : length s ≤ 4096) (room : 
   spells : even_line (line_after_all blank_line (hexadecimal s)) (length (bytes_after_all o blank_line (hexadecimal s))) ≡ true
   unfolding even_line blank_line
   spells =
-      let l = line_all s 0 false b (omega arith) in
-      let e = bytes_all s o 0 0 false b refl (omega arith) (omega arith) in
-      let d = (line_after_all (line_at 0 false) (hexadecimal s)).digits in
-      let n = length (bytes_after_all o (line_at 0 false) (hexadecimal s)) in
+      let l = line_all s 0 b (omega arith) in
+      let e = bytes_all s o 0 0 b refl (omega arith) (omega arith) in
+      let d = (line_after_all (line_at 0) (hexadecimal s)).digits in
+      let n = length (bytes_after_all o (line_at 0) (hexadecimal s)) in
       let room' : n ≡ length o = ap length e ∙ length_splice o 0 s in
       let even : eqb (d % 2) 0 ≡ true = eq-eqb (d % 2) 0 (omega arith) in
       let long : leb (d / 2) n ≡ true = le-leb (d / 2) n (omega arith) in
@@ -142,11 +143,11 @@ module _ (s o : List ℕ) (b : Below 256 s) (short : length s ≤ 4096) (room : 
 
   half : (line_after_all blank_line (hexadecimal s)).digits / 2 ≡ length s
   unfolding blank_line
-  half = let l = line_all s 0 false b (omega arith) in omega (arith, l.0)
+  half = let l = line_all s 0 b (omega arith) in omega (arith, l.0)
 
   filled : take (length s) (bytes_after_all o blank_line (hexadecimal s)) ≡ s
   unfolding blank_line
-  filled = ap (take (length s)) (bytes_all s o 0 0 false b refl (omega arith) (omega arith)) ∙ splice_read o 0 s (omega arith)
+  filled = ap (take (length s)) (bytes_all s o 0 0 b refl (omega arith) (omega arith)) ∙ splice_read o 0 s (omega arith)
 
   -- the digits of s, from the line's begin on, in a buffer with room, print the answer of s
   pub spelled_answer : answer_to (bytes_after_all o blank_line (hexadecimal s)) (line_after_all blank_line (hexadecimal s)) ≡ section_line (answer_of s)

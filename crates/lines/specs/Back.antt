@@ -1,12 +1,9 @@
 -- What a line of input prints where each pane that was read is written back: the section at place 0, written at place 0 of 32,768 zeros.
-use Rattle.std.specs.Prelude.{ℕ, ◌/◌, cond, List, [], ◌++◌, length, take, replicate}
+use Rattle.std.specs.Prelude.{ℕ, ◌/◌, cond, List, [], ◌++◌, length, take, replicate, Err, Ok}
 use Rattle.core_read.specs.declared.cursor.ByteOrder.TheVariants.{Little}
-use Rattle.core_checks.specs.declared.checks.Written.{Written}
-use Rattle.core_checks.specs.declared.checks.Written.TheVariants as Writtens
 use Rattle.digits.specs.Digits.{even_line}
 use Rattle.digits.specs.declared.Line.{Line}
-use Rattle.strip_header.specs.declared.Section.{Section}
-use Rattle.strip_header.specs.declared.Section.TheVariants.{End, Passed, Pane, Refused}
+use Rattle.strip_header.specs.declared.Section.TheVariants.{End, Passed, Pane}
 use Rattle.strip_records.specs.Whole.{Whole}
 use Rattle.strip_read.specs.Read.{read_section, lists_after}
 use Rattle.strip_read.specs.declared.read.SectionRead.{SectionRead}
@@ -15,22 +12,24 @@ use Rattle.strip.specs.Same.{read_whole}
 use Rattle.lines.specs.Answers.{ascii, refusal_text, section_text, bad_text}
 use Rattle.lines.specs.Answered.{full_lists}
 use Rattle.lines.specs.Hexadecimal.{hexadecimal}
+use Rattle.core_checks.specs.Checks.{Written}
+use Rattle.strip_header.specs.Header.{SectionAnswer}
 
 -- a space, and the output o up to the end of what was written, or the refusal of the write
 unfoldable pub written_text : Written → List ℕ → List ℕ
-written_text (Writtens.End end) o = ascii " " ++ hexadecimal (take end o)
-written_text (Writtens.Refused why) o = ascii " " ++ refusal_text why
+written_text (Ok end) o = ascii " " ++ hexadecimal (take end o)
+written_text (Err why) o = ascii " " ++ refusal_text why
 
 -- the section of w written at place 0 of the output o
 unfoldable pub back_in : List ℕ → Whole → List ℕ
 back_in o w = written_text (write_answer w (length o) 0) (write_output Little w o 0)
 
 -- after the answer of a read: the pane w written back, and nothing after any other answer
-unfoldable pub back_after : Section → Whole → List ℕ
-back_after End w = []
-back_after (Passed next) w = []
-back_after (Pane end next reach) w = back_in (replicate 32768 0) w
-back_after (Refused why) w = []
+unfoldable pub back_after : SectionAnswer → Whole → List ℕ
+back_after (Ok End) w = []
+back_after (Ok (Passed next)) w = []
+back_after (Ok (Pane end next reach)) w = back_in (replicate 32768 0) w
+back_after (Err why) w = []
 
 -- the line of the section at place 0 of s; what is written back is the pane as the read gives it, with as many numbers of each list as it counts
 unfoldable pub back_line : List ℕ → List ℕ

@@ -4,11 +4,12 @@ ghost use Rattle.core_read.specs.Bytes.{Room, Put};
 ghost use Rattle.lines.specs.Answered.{answer_of, answer_to};
 
 use core_read::cursor::ByteOrder;
+use core_read::error::Refusal;
 use digits::Line;
 use strip::read::Section;
 
 // Reads the section at place 0, with lists at full length.
-fn section_answer(data: &[u8]) -> Section
+fn section_answer(data: &[u8]) -> Result<Section, Refusal>
     ensures { result ≡ answer_of «data».now }
 {
     let mut quads = [0u32; 2040];

@@ -5,8 +5,8 @@ ghost use Rattle.strip_records.specs.Whole.{lists, Full};
 ghost use Rattle.strip.specs.Same.{read_whole};
 ghost use Rattle.lines.specs.Back.{written_text, back_in, back_after, back_line, back_to};
 
-use core_checks::checks::Written;
 use core_read::cursor::ByteOrder;
+use core_read::error::Refusal;
 use core_write::writer::put_bytes;
 use digits::Line;
 use strip::filled;
@@ -14,15 +14,15 @@ use strip::read::Section;
 use strip::record::Record;
 
 // A space, then the bytes of the section that was written, or the refusal of its write.
-fn put_written(out: &mut [u8], p: usize, written: Written, section: &[u8]) -> usize
-    requires { Room out.old p 65537 × (length section.now ≤ 32768) × ((end : ℕ) → written ≡ Written.End end → end ≤ length section.now) }
+fn put_written(out: &mut [u8], p: usize, written: Result<usize, Refusal>, section: &[u8]) -> usize
+    requires { Room out.old p 65537 × (length section.now ≤ 32768) × ((end : ℕ) → written ≡ Ok end → end ≤ length section.now) }
     ensures put { Put out.old p (length (written_text written section.now)) (written_text written section.now) result out.new }
     ensures upper_bound { result ≤ p + 65537 }
 {
     let q = put_bytes(out, p, b" ");
     match written {
-        Written::End(end) => crate::put_hexadecimal(out, q, &section[..end]),
-        Written::Refused(why) => crate::put_refusal(out, q, why),
+        Ok(end) => crate::put_hexadecimal(out, q, &section[..end]),
+        Err(why) => crate::put_refusal(out, q, why),
     }
 }
 
@@ -67,7 +67,7 @@ fn put_back(
 fn put_after(
     out: &mut [u8],
     p: usize,
-    answer: Section,
+    answer: Result<Section, Refusal>,
     data: &[u8],
     r: Record,
     quads: &[u32],
@@ -80,10 +80,12 @@ fn put_after(
     ensures upper_bound { result ≤ p + 65537 }
 {
     match answer {
-        Section::Pane { .. } => put_back(out, p, data, r, quads, units, lines, frames),
-        Section::End => p,
-        Section::Passed { .. } => p,
-        Section::Refused(_) => p,
+        Ok(found) => match found {
+            Section::Pane { .. } => put_back(out, p, data, r, quads, units, lines, frames),
+            Section::End => p,
+            Section::Passed { .. } => p,
+        },
+        Err(_) => p,
     }
 }
 

@@ -3,8 +3,8 @@
 // (answered, and back with its pane written back), and the loop of a program that prints it (program).
 #![tactic(auto)]
 
-mod answered;
-mod back;
+pub mod answered;
+pub mod back;
 mod input;
 pub mod program;
 
@@ -18,6 +18,8 @@ use core_read::error::Refusal;
 use core_write::writer::put_bytes;
 use escapes::put_hex_digits;
 use strip::read::Section;
+
+// No `write!` or `Display`: `write!` into lent bytes ensures neither which bytes it puts nor that it puts them all.
 
 // ---- numbers
 
@@ -62,7 +64,7 @@ pub fn put_refusal(out: &mut [u8], p: usize, why: Refusal) -> usize
 // `pass N`
 fn put_passed(out: &mut [u8], p: usize, next: usize) -> usize
     requires { Room out.old p 25 }
-    ensures put { Put out.old p (length (section_text (Section.Passed next))) (section_text (Section.Passed next)) result out.new }
+    ensures put { Put out.old p (length (section_text (Ok (Section.Passed next)))) (section_text (Ok (Section.Passed next))) result out.new }
     ensures upper_bound { result ≤ p + 25 }
 {
     let q = put_bytes(out, p, b"pass");
@@ -72,7 +74,7 @@ fn put_passed(out: &mut [u8], p: usize, next: usize) -> usize
 // `pane R N`
 fn put_pane(out: &mut [u8], p: usize, end: usize, next: usize, reach: usize) -> usize
     requires { Room out.old p 46 }
-    ensures put { Put out.old p (length (section_text (Section.Pane end next reach))) (section_text (Section.Pane end next reach)) result out.new }
+    ensures put { Put out.old p (length (section_text (Ok (Section.Pane end next reach)))) (section_text (Ok (Section.Pane end next reach))) result out.new }
     ensures upper_bound { result ≤ p + 46 }
 {
     let p1 = put_bytes(out, p, b"pane");
@@ -81,21 +83,23 @@ fn put_pane(out: &mut [u8], p: usize, end: usize, next: usize, reach: usize) -> 
 }
 
 // `end`, `pass N`, `pane R N` or `no NUMBER a b`.
-fn put_answer(out: &mut [u8], p: usize, answer: Section) -> usize
+fn put_answer(out: &mut [u8], p: usize, answer: Result<Section, Refusal>) -> usize
     requires { Room out.old p 65 }
     ensures put { Put out.old p (length (section_text answer)) (section_text answer) result out.new }
     ensures upper_bound { result ≤ p + 65 }
 {
     match answer {
-        Section::End => put_bytes(out, p, b"end"),
-        Section::Passed { next } => put_passed(out, p, next),
-        Section::Pane { end, next, reach } => put_pane(out, p, end, next, reach),
-        Section::Refused(why) => put_refusal(out, p, why),
+        Ok(found) => match found {
+            Section::End => put_bytes(out, p, b"end"),
+            Section::Passed { next } => put_passed(out, p, next),
+            Section::Pane { end, next, reach } => put_pane(out, p, end, next, reach),
+        },
+        Err(why) => put_refusal(out, p, why),
     }
 }
 
 // The same as a line, at most 66 bytes.
-fn answer_line(out: &mut [u8], p: usize, answer: Section) -> usize
+fn answer_line(out: &mut [u8], p: usize, answer: Result<Section, Refusal>) -> usize
     requires { Room out.old p 66 }
     ensures put { Put out.old p (length (section_line answer)) (section_line answer) result out.new }
     ensures upper_bound { result ≤ p + 66 }
@@ -120,10 +124,8 @@ fn put_hexadecimal(out: &mut [u8], p: usize, s: &[u8]) -> usize
     ensures { Put out.old p (2 * length s.now) (hexadecimal s.now) result out.new }
 {
     let mut q = p;
-    let mut i = 0;
-    while i < s.len() {
-        q = put_hex_digits(out, q, s[i]);
-        i += 1;
+    for b in s {
+        q = put_hex_digits(out, q, *b);
     }
     q
 }

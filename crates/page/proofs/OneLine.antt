@@ -7,17 +7,18 @@ use mathlib.Core.List.{List, [], ◌∷◌, ◌++◌}
 use lib.Dec.{ltb, eqb}
 use Rattle.core_read.specs.Refusals.{number_of, figure_a, figure_b}
 use Rattle.core_read.specs.declared.error.Refusal.{Refusal}
-use Rattle.core_read.specs.declared.text.FixedString24.{FixedString24}
+use Rattle.core_read.specs.declared.text.FixedString.{FixedString}
 use Rattle.escapes.specs.Escaped.{control, escaped, has_control}
 use Rattle.escapes.proofs.Laws.{not_control, control_append, no_control}
 use Rattle.lines.specs.Answers.{ascii, figure, refusal_text}
 use Rattle.lines.specs.Decimal.{decimal_in, decimal}
-use Rattle.strip_header.specs.declared.Section.{Section}
-use Rattle.strip_header.specs.declared.Section.TheVariants.{End, Passed, Pane, Refused}
+use Rattle.strip_header.specs.declared.Section.TheVariants.{End, Passed, Pane}
 use Rattle.strip_records.specs.Kinds.{letter_bytes}
 use Rattle.strip_records.specs.declared.kind.Kind.{Kind}
 use Rattle.strip_records.specs.declared.kind.Kind.TheVariants.{Pan1, Pic1, Txt1, Wnd1, Ali1}
 use Rattle.page.specs.PageLine.{quoted, place_text, size_text, string_text, eof_text, no_nul_text, per_character_text, ill_formed_text, section_size_text, past_section_text, sentence, pane_text, pass_text, refused_text, end_text, page_text}
+use Rattle.std.specs.Prelude.{Err, Ok}
+use Rattle.strip_header.specs.Header.{SectionAnswer}
 
 record Plain (l : List ℕ) : Type 0 where
   none : has_control l ≡ false
@@ -128,7 +129,7 @@ refusal_plain : (why : Refusal) → Plain (refusal_text why)
 unfolding refusal_text has_control control
 refusal_plain why = word (ascii "no") refl and figure_plain (number_of why) and figure_plain (figure_a why) and figure_plain (figure_b why)
 
-pane_plain : (kind : Kind) (name : FixedString24) (place next : ℕ) → Plain (pane_text kind name place next)
+pane_plain : (kind : Kind) (name : FixedString 24) (place next : ℕ) → Plain (pane_text kind name place next)
 unfolding pane_text has_control control
 pane_plain kind name place next = letters_plain kind and word (ascii " ") refl and quoted_plain false _ and size_plain place next
 
@@ -144,12 +145,12 @@ end_plain : (place : ℕ) → Plain (end_text place)
 unfolding end_text has_control control
 end_plain place = word (ascii "end") refl and place_plain place
 
-text_plain : (s : List ℕ) (place : ℕ) (answer : Section) (kind : Kind) (name : FixedString24) → Plain (page_text s place answer kind name)
+text_plain : (s : List ℕ) (place : ℕ) (answer : SectionAnswer) (kind : Kind) (name : FixedString 24) → Plain (page_text s place answer kind name)
 unfolding page_text
-text_plain s place End kind name = end_plain place
-text_plain s place (Passed next) kind name = pass_plain _ place next
-text_plain s place (Pane end next reach) kind name = pane_plain kind name place next
-text_plain s place (Refused why) kind name = refused_plain why place
+text_plain s place (Ok End) kind name = end_plain place
+text_plain s place (Ok (Passed next)) kind name = pass_plain _ place next
+text_plain s place (Ok (Pane end next reach)) kind name = pane_plain kind name place next
+text_plain s place (Err why) kind name = refused_plain why place
 
-pub one_line : (s : List ℕ) (place : ℕ) (answer : Section) (kind : Kind) (name : FixedString24) → has_control (page_text s place answer kind name) ≡ false
+pub one_line : (s : List ℕ) (place : ℕ) (answer : SectionAnswer) (kind : Kind) (name : FixedString 24) → has_control (page_text s place answer kind name) ≡ false
 one_line s place answer kind name = (text_plain s place answer kind name).none

@@ -1,16 +1,16 @@
 -- The line that the program `page` prints of a section, from the place of the section and what a read of it answered.
-use Rattle.std.specs.Prelude.{ℕ, ◌-◌, Bool, true, false, cond, List, ◌++◌, take, eqb}
+use Rattle.std.specs.Prelude.{ℕ, ◌-◌, Bool, true, false, cond, List, ◌++◌, take, eqb, Err, Ok}
 use Rattle.core_read.specs.Bytes.{part}
 use Rattle.core_read.specs.declared.error.Refusal.{Refusal}
 use Rattle.core_read.specs.Refusals.{number_of, figure_a, figure_b}
-use Rattle.core_read.specs.declared.text.FixedString24.{FixedString24}
+use Rattle.core_read.specs.declared.text.FixedString.{FixedString}
 use Rattle.escapes.specs.Escaped.{escaped}
 use Rattle.lines.specs.Answers.{ascii, figure, refusal_text}
 use Rattle.lines.specs.Decimal.{decimal}
-use Rattle.strip_header.specs.declared.Section.{Section}
-use Rattle.strip_header.specs.declared.Section.TheVariants.{End, Passed, Pane, Refused}
+use Rattle.strip_header.specs.declared.Section.TheVariants.{End, Passed, Pane}
 use Rattle.strip_records.specs.Kinds.{letter_bytes}
 use Rattle.strip_records.specs.declared.kind.Kind.{Kind}
+use Rattle.strip_header.specs.Header.{SectionAnswer}
 
 -- ---- the parts of a line
 
@@ -66,7 +66,7 @@ sentence number a b =
 -- ---- the lines, without their end
 
 -- pan1 "NAME" at PLACE, SIZE bytes
-unfoldable pub pane_text : Kind → FixedString24 → ℕ → ℕ → List ℕ
+unfoldable pub pane_text : Kind → FixedString 24 → ℕ → ℕ → List ℕ
 pane_text kind name place next = letter_bytes kind ++ ascii " " ++ quoted false (take name.count name.bytes) ++ size_text place next
 
 -- pass "LETTERS" at PLACE, SIZE bytes
@@ -82,12 +82,12 @@ unfoldable pub end_text : ℕ → List ℕ
 end_text place = ascii "end" ++ place_text place
 
 -- what is said of the section at a place of the page s; kind and name are those of the pane that was read
-unfoldable pub page_text : List ℕ → ℕ → Section → Kind → FixedString24 → List ℕ
-page_text s place End kind name = end_text place
-page_text s place (Passed next) kind name = pass_text (part 4 s place) place next
-page_text s place (Pane end next reach) kind name = pane_text kind name place next
-page_text s place (Refused why) kind name = refused_text why place
+unfoldable pub page_text : List ℕ → ℕ → SectionAnswer → Kind → FixedString 24 → List ℕ
+page_text s place (Ok End) kind name = end_text place
+page_text s place (Ok (Passed next)) kind name = pass_text (part 4 s place) place next
+page_text s place (Ok (Pane end next reach)) kind name = pane_text kind name place next
+page_text s place (Err why) kind name = refused_text why place
 
 -- the same as a line
-unfoldable pub page_line : List ℕ → ℕ → Section → Kind → FixedString24 → List ℕ
+unfoldable pub page_line : List ℕ → ℕ → SectionAnswer → Kind → FixedString 24 → List ℕ
 page_line s place answer kind name = page_text s place answer kind name ++ ascii "\n"

@@ -1,11 +1,13 @@
 // The lines of the program `page`, put into lent bytes at a place. Each function answers the place after what it put, and changes no other byte.
-ghost use Rattle.std.specs.Prelude.{◌≡◌, ◌+◌, ◌-◌, ◌*◌, ◌≤◌, min, length};
+// They go by the parts of crate `lines` and not by `write!`, for its reason.
+ghost use Rattle.std.specs.Prelude.{◌+◌, ◌*◌, ◌≤◌, length};
 ghost use Rattle.core_read.specs.Bytes.{part, Room, Put};
-ghost use Rattle.page.specs.PageLine.{numbered, quoted, size_text, string_text, ill_formed_text, sentence, pane_text, pass_text, refused_text, page_text, page_line};
+ghost use Rattle.core_read.specs.Refusals.{number_of, figure_a, figure_b};
+ghost use Rattle.page.specs.PageLine.{numbered, quoted, size_text, string_text, eof_text, ill_formed_text, section_size_text, past_section_text, sentence, pane_text, pass_text, refused_text, page_text, page_line};
 
 use core_read::cursor::ByteOrder;
 use core_read::error::Refusal;
-use core_read::text::FixedString24;
+use core_read::text::FixedString;
 use core_write::writer::{put_bytes, put_u32};
 use escapes::put_escaped;
 use lines::{put_decimal, put_refusal};
@@ -55,96 +57,101 @@ fn put_quoted(out: &mut [u8], p: usize, s: &[u8], all: bool) -> usize
     put_bytes(out, p2, b"\"")
 }
 
-fn least(a: usize, b: usize) -> usize
-    ensures { result ≡ min a b }
-{
-    if a < b { a } else { b }
-}
-
-// How many bytes lie from a place to the next; none where the walk stayed.
-fn size(place: usize, next: usize) -> usize
-    ensures { result ≡ next - place }
-{
-    if place < next { next - place } else { 0 }
-}
-
 // ` at PLACE, SIZE bytes`
 fn put_size(out: &mut [u8], p: usize, place: usize, next: usize) -> usize
     requires { Room out.old p 52 }
     ensures put { Put out.old p (length (size_text place next)) (size_text place next) result out.new }
     ensures upper_bound { result ≤ p + 52 }
 {
-    let n = size(place, next);
+    let n = next.saturating_sub(place);
     put_numbers(out, p, b" at ", place, b", ", n, b" bytes")
 }
 
 // ---- the sentences
 
+#[tactic(auto, using(lines::proofs::Sized::put_sized), unfolding(crate::specs::PageLine::string_text))]
 fn put_string(out: &mut [u8], p: usize, which: usize) -> usize
     requires { Room out.old p 9 }
     ensures put { Put out.old p (length (string_text which)) (string_text which) result out.new }
     ensures upper_bound { result ≤ p + 9 }
 {
-    if which == 1 {
-        return put_bytes(out, p, b"pane name");
+    match which {
+        1 => put_bytes(out, p, b"pane name"),
+        2 => put_bytes(out, p, b"user name"),
+        3 => put_bytes(out, p, b"label"),
+        _ => put_bytes(out, p, b"string"),
     }
-    if which == 2 {
-        return put_bytes(out, p, b"user name");
-    }
-    if which == 3 {
-        return put_bytes(out, p, b"label");
-    }
-    put_bytes(out, p, b"string")
 }
 
-fn put_ill_formed(out: &mut [u8], p: usize, a: usize, b: usize) -> usize
+fn put_ill_formed(out: &mut [u8], p: usize, place: usize, which: usize) -> usize
     requires { Room out.old p 120 }
-    ensures put { Put out.old p (length (ill_formed_text a b)) (ill_formed_text a b) result out.new }
+    ensures put { Put out.old p (length (ill_formed_text place which)) (ill_formed_text place which) result out.new }
     ensures upper_bound { result ≤ p + 120 }
 {
     let p1 = put_bytes(out, p, b"the ");
-    let p2 = put_string(out, p1, b);
-    put_number(out, p2, b" at ", a, b" is ill-formed UTF-8")
+    let p2 = put_string(out, p1, which);
+    put_number(out, p2, b" at ", place, b" is ill-formed UTF-8")
 }
 
-// What is wrong and where, by a refusal's number and figures. A page is never too long, its places are multiples of 4 within it, and the lists
-// are full: 4 to 8 and 19 are left.
-fn put_sentence(out: &mut [u8], p: usize, number: usize, a: usize, b: usize) -> usize
+fn put_eof(out: &mut [u8], p: usize, offset: usize, requested: usize) -> usize
     requires { Room out.old p 120 }
-    ensures put { Put out.old p (length (sentence number a b)) (sentence number a b) result out.new }
+    ensures put { Put out.old p (length (eof_text offset requested)) (eof_text offset requested) result out.new }
     ensures upper_bound { result ≤ p + 120 }
 {
-    if number == 4 {
-        return put_numbers(out, p, b"the bytes run out: ", b, b" asked for at ", a, b"");
+    let before = b"the bytes run out: ";
+    put_numbers(out, p, before, requested, b" asked for at ", offset, b"")
+}
+
+fn put_section_size(out: &mut [u8], p: usize, place: usize, size: usize) -> usize
+    requires { Room out.old p 120 }
+    ensures put { Put out.old p (length (section_size_text place size)) (section_size_text place size) result out.new }
+    ensures upper_bound { result ≤ p + 120 }
+{
+    let after = b" is below 8, no multiple of 4, or passes the buffer";
+    put_numbers(out, p, b"the section size ", size, b" at ", place, after)
+}
+
+fn put_past_section(out: &mut [u8], p: usize, reach: usize, end: usize) -> usize
+    requires { Room out.old p 120 }
+    ensures put { Put out.old p (length (past_section_text reach end)) (past_section_text reach end) result out.new }
+    ensures upper_bound { result ≤ p + 120 }
+{
+    let before = b"the pane looks as far as ";
+    let between = b", past the end of its section at ";
+    put_numbers(out, p, before, reach, between, end, b"")
+}
+
+// What is wrong and where. A page is never too long, its places are multiples of 4 within it, the lists are full, and nothing is written: six refusals are left.
+fn put_sentence(out: &mut [u8], p: usize, why: Refusal) -> usize
+    requires { Room out.old p 120 }
+    ensures put { Put out.old p (length (sentence (number_of why) (figure_a why) (figure_b why))) (sentence (number_of why) (figure_a why) (figure_b why)) result out.new }
+    ensures upper_bound { result ≤ p + 120 }
+{
+    match why {
+        Refusal::UnexpectedEof { offset, requested } => put_eof(out, p, offset, requested),
+        Refusal::NoNul { place } => {
+            let after = b" meets no NUL before the end of the buffer";
+            put_number(out, p, b"the label at ", place, after)
+        }
+        Refusal::PerCharacter { value } => {
+            let before = b"the text box has a per-character transform at offset ";
+            put_number(out, p, before, value, b", which is not read")
+        }
+        Refusal::IllFormedUtf8 { place, which } => put_ill_formed(out, p, place, which),
+        Refusal::SectionSize { place, size } => put_section_size(out, p, place, size),
+        Refusal::PastSection { reach, end } => put_past_section(out, p, reach, end),
+        Refusal::TooLong { .. }
+        | Refusal::BadPlace { .. }
+        | Refusal::ShortList { .. }
+        | Refusal::BadName { .. }
+        | Refusal::Reserve0 { .. }
+        | Refusal::ListLength { .. }
+        | Refusal::BadFlip { .. }
+        | Refusal::TextLength { .. }
+        | Refusal::IllFormedUtf16 { .. }
+        | Refusal::NoLineBit
+        | Refusal::OutputEnd { .. } => put_bytes(out, p, b"no walk over a page gives this"),
     }
-    if number == 5 {
-        let after = b" meets no NUL before the end of the buffer";
-        return put_number(out, p, b"the label at ", a, after);
-    }
-    if number == 6 {
-        let before = b"the text box has a per-character transform at offset ";
-        return put_number(out, p, before, a, b", which is not read");
-    }
-    if number == 7 {
-        return put_ill_formed(out, p, a, b);
-    }
-    if number == 8 {
-        let after = b" is below 8, no multiple of 4, or passes the buffer";
-        return put_numbers(out, p, b"the section size ", b, b" at ", a, after);
-    }
-    if number == 19 {
-        let before = b"the pane looks as far as ";
-        return put_numbers(
-            out,
-            p,
-            before,
-            a,
-            b", past the end of its section at ",
-            b,
-            b"",
-        );
-    }
-    put_bytes(out, p, b"no walk over a page gives this")
 }
 
 // ---- the lines, without their end
@@ -154,7 +161,7 @@ fn put_pane(
     out: &mut [u8],
     p: usize,
     kind: Kind,
-    name: FixedString24,
+    name: FixedString<24>,
     place: usize,
     next: usize,
 ) -> usize
@@ -164,7 +171,7 @@ fn put_pane(
 {
     let bytes = name.bytes;
     let count = name.count;
-    let n = least(count, 24);
+    let n = count.min(24);
     let p1 = put_u32(ByteOrder::Little, out, p, kind.letters());
     let p2 = put_bytes(out, p1, b" ");
     let p3 = put_quoted(out, p2, &bytes[..n], false);
@@ -188,12 +195,9 @@ fn put_refused(out: &mut [u8], p: usize, why: Refusal, place: usize) -> usize
     ensures put { Put out.old p (length (refused_text why place)) (refused_text why place) result out.new }
     ensures upper_bound { result ≤ p + 211 }
 {
-    let number = why.number();
-    let a = why.a();
-    let b = why.b();
     let p1 = put_refusal(out, p, why);
     let p2 = put_number(out, p1, b" at ", place, b": ");
-    put_sentence(out, p2, number, a, b)
+    put_sentence(out, p2, why)
 }
 
 // The letters at a place, as many of the four as are there.
@@ -202,9 +206,9 @@ fn put_letters(out: &mut [u8], p: usize, strip: &[u8], place: usize, next: usize
     ensures put { Put out.old p (length (pass_text (part 4 strip.now place) place next)) (pass_text (part 4 strip.now place) place next) result out.new }
     ensures upper_bound { result ≤ p + 211 }
 {
-    let from = least(place, strip.len());
-    let to = from + least(4, strip.len() - from);
-    put_passed(out, p, &strip[from..to], place, next)
+    let rest = &strip[place.min(strip.len())..];
+    let n = rest.len().min(4);
+    put_passed(out, p, &rest[..n], place, next)
 }
 
 fn put_text(
@@ -212,19 +216,21 @@ fn put_text(
     p: usize,
     strip: &[u8],
     place: usize,
-    answer: Section,
+    answer: Result<Section, Refusal>,
     kind: Kind,
-    name: FixedString24,
+    name: FixedString<24>,
 ) -> usize
     requires { Room out.old p 211 }
     ensures put { Put out.old p (length (page_text strip.now place answer kind name)) (page_text strip.now place answer kind name) result out.new }
     ensures upper_bound { result ≤ p + 211 }
 {
     match answer {
-        Section::End => put_number(out, p, b"end at ", place, b""),
-        Section::Passed { next } => put_letters(out, p, strip, place, next),
-        Section::Pane { next, .. } => put_pane(out, p, kind, name, place, next),
-        Section::Refused(why) => put_refused(out, p, why, place),
+        Ok(found) => match found {
+            Section::End => put_number(out, p, b"end at ", place, b""),
+            Section::Passed { next } => put_letters(out, p, strip, place, next),
+            Section::Pane { next, .. } => put_pane(out, p, kind, name, place, next),
+        },
+        Err(why) => put_refused(out, p, why, place),
     }
 }
 
@@ -234,9 +240,9 @@ pub fn put_line(
     p: usize,
     strip: &[u8],
     place: usize,
-    answer: Section,
+    answer: Result<Section, Refusal>,
     kind: Kind,
-    name: FixedString24,
+    name: FixedString<24>,
 ) -> usize
     requires { Room out.old p 212 }
     ensures put { Put out.old p (length (page_line strip.now place answer kind name)) (page_line strip.now place answer kind name) result out.new }

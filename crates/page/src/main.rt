@@ -12,45 +12,25 @@
 mod line;
 mod stack;
 
-ghost use Rattle.std.specs.Prelude.{◌≤◌, length};
+ghost use Rattle.std.specs.Prelude.{IfOk, ◌^◌, ◌<◌};
 ghost use Rattle.io.specs.Counts.{IsPrefixLen};
 
 use core_read::cursor::ByteOrder;
-use core_read::text::FixedString24;
+use core_read::error::Refusal;
 use std::io;
 use std::io::Read;
-use strip::kind::Kind;
-use strip::read::{Section, SectionRead};
+use strip::read::SectionRead;
 use walk::Walk;
-
-fn print(rt: &impl Print, text: &[u8]) -> io::Result<()> {
-    rt.write_all(text)
-}
 
 // ---- the page
 
-// The line of the section that begins at this place: `line::put_line` says which.
-fn print_line(
-    rt: &impl Print,
-    data: &[u8],
-    place: usize,
-    answer: Section,
-    kind: Kind,
-    name: FixedString24,
-) -> io::Result<()> {
-    let mut line = [0u8; 212];
-    let end = line::put_line(&mut line, 0, data, place, answer, kind, name);
-    print(rt, &line[..end])
-}
-
-// The same from what was read of the section.
+// The line of the section that was read at this place: `line::put_line` says which.
 fn print_section(rt: &impl Print, data: &[u8], place: usize, read: SectionRead) -> io::Result<()> {
-    let answer = read.answer;
     let record = read.record;
-    let kind = record.kind;
-    let base = record.base;
-    let name = base.pane_name;
-    print_line(rt, data, place, answer, kind, name)
+    let name = record.base.pane_name;
+    let mut line = [0u8; 212];
+    let end = line::put_line(&mut line, 0, data, place, read.answer, record.kind, name);
+    rt.write_all(&line[..end])
 }
 
 // A line for each section, until the walk stays where it is: at the end, or where a section is refused.
@@ -84,61 +64,30 @@ fn page(rt: &impl Print, data: &[u8]) -> io::Result<()> {
 
 // ---- standard input
 
-// What a read gave: the place after it, and whether it failed.
-#[derive(Clone, Copy)]
-struct Input {
-    end: usize,
-    failed: bool,
-}
-
-// One read into bytes from a place on. It stays at the place where the input has ended or the read failed.
-fn read_more(from: &mut impl Read, bytes: &mut [u8], at: usize) -> Input
-    requires { at ≤ length bytes.old }
-    ensures { (at ≤ result.end) × (result.end ≤ length bytes.new) }
-{
-    match from.read(&mut bytes[at..]) {
-        Ok(n) => Input {
-            end: at + n,
-            failed: false,
-        },
-        Err(_) => Input {
-            end: at,
-            failed: true,
-        },
-    }
-}
-
-// Reads until bytes are full, the input ends or a read fails.
-fn read_page(from: &mut impl Read, bytes: &mut [u8]) -> Input
-    ensures { IsPrefixLen result.end bytes.new }
+// Reads until bytes are full or the input ends, and answers how many it has filled.
+fn read_page(from: &mut impl Read, bytes: &mut [u8]) -> io::Result<usize>
+    ensures { IfOk result (λ n. IsPrefixLen n bytes.new) }
 {
     let mut end = 0;
+    // No `for`: a read gives as many bytes as it likes, so there is nothing to count but the room that is left.
     while end < bytes.len() {
-        let more = read_more(from, bytes, end);
-        let next = more.end;
-        if more.failed {
-            return Input { end, failed: true };
+        let n = from.read(&mut bytes[end..])?;
+        if n == 0 {
+            break;
         }
-        if next <= end {
-            return Input { end, failed: false };
-        }
-        end = next;
+        end += n;
     }
-    Input { end, failed: false }
+    Ok(end)
 }
 
 // Reads the page and prints its lines, or why there are none. A page that fills bytes is too long.
-fn run(rt: &(impl io::Input + Print), bytes: &mut [u8], too_long: &[u8]) -> io::Result<()> {
+fn run(rt: &(impl io::Input + Print), bytes: &mut [u8], too_long: &str) -> io::Result<()> {
     let mut from = rt.reader();
-    let taken = read_page(&mut from, bytes);
-    let n = taken.end;
-    if taken.failed {
-        return print(rt, b"standard input cannot be read\n");
+    match read_page(&mut from, bytes) {
+        Err(_) => rt.println("standard input cannot be read"),
+        Ok(n) if n < bytes.len() => page(rt, &bytes[..n]),
+        Ok(_) => rt.println(too_long),
     }
-    if bytes.len() <= n {
-        return print(rt, too_long);
-    }
-    page(rt, &bytes[..n])
 }
 
 // ---- the room on the stack
@@ -149,6 +98,11 @@ const LARGE_PAGE: usize = 16777216;
 // The longest that is taken where there is no room for that.
 const SMALL_PAGE: usize = 5242880;
 
+// An array has a byte more than the page, to tell a longer one.
+const LARGE_ARRAY: usize = LARGE_PAGE + 1;
+
+const SMALL_ARRAY: usize = SMALL_PAGE + 1;
+
 // What the stack must be allowed to have for a large page: room for all that arguments and environment can take, 6,291,456 bytes, and 2,097,151 more.
 const LARGE_STACK: u64 = 25165824;
 
@@ -156,66 +110,28 @@ const LARGE_STACK: u64 = 25165824;
 // there is room for all of that, and below it for at least some 400,000 bytes: with more of them the program ends with no line.
 const SMALL_STACK: u64 = 5767168;
 
-// An array is lent by its type, and not as a slice, for the check's sake: it then does not count the zeros. It has a byte more than the page, to tell a longer one.
-fn run_in_large(rt: &(impl io::Input + Print), bytes: &mut [u8; LARGE_PAGE + 1]) -> io::Result<()> {
-    run(rt, bytes, b"more than 16777216 bytes: no page is longer\n")
-}
-
-fn run_in_small(rt: &(impl io::Input + Print), bytes: &mut [u8; SMALL_PAGE + 1]) -> io::Result<()> {
-    run(
-        rt,
-        bytes,
-        b"more than 5242880 bytes: a page lies on the stack, which may have less than 25165824 bytes here; with ulimit -s 24576 or more, page takes 16777216\n",
-    )
-}
-
-fn run_large(rt: &(impl io::Input + Print)) -> io::Result<()> {
-    let mut bytes = [0u8; LARGE_PAGE + 1];
-    run_in_large(rt, &mut bytes)
-}
-
-fn run_small(rt: &(impl io::Input + Print)) -> io::Result<()> {
-    let mut bytes = [0u8; SMALL_PAGE + 1];
-    run_in_small(rt, &mut bytes)
-}
-
-// Whether there is room for the array of this number, where the stack may have so many bytes: 1 is the large one, 2 the small one.
-fn has_room(limit: u64, number: usize) -> bool {
-    if number == 1 {
-        return LARGE_STACK <= limit;
-    }
-    SMALL_STACK <= limit
-}
-
-// Takes the page in the first array that there is room for, of those up to this number, and says whether there is one.
-// It calls itself for the sake of the stack. The compiler (LLVM) may merge a function into its caller, arrays and all: the large array would lie on the stack
-// before the test, and end the program where there is no room. It does not do so where the caller calls itself and goes on after that, as here. The gate would see it,
-// since it runs page with the default stack; it does not try the large array.
-fn run_in_first(rt: &(impl io::Input + Print), limit: u64, number: usize) -> io::Result<bool> {
-    if number == 0 {
-        return Ok(false);
-    }
-    if run_in_first(rt, limit, number - 1)? {
-        return Ok(true);
-    }
-    let room = has_room(limit, number);
-    if room {
-        if number == 1 {
-            run_large(rt)?;
-        } else {
-            run_small(rt)?;
-        }
-    }
-    Ok(room)
+// Takes a page of fewer than N bytes. Not inlined, so that the array is on the stack only once this is called: in main the large array would lie there
+// before the test, and end the program where there is no room. The gate would see it, since it runs page with the default stack; it does not try the large array.
+#[inline(never)]
+fn run_in<const N: usize>(rt: &(impl io::Input + Print), too_long: &str) -> io::Result<()>
+    requires { N < 2 ^ 63 }
+{
+    let mut bytes = [0u8; N];
+    run(rt, &mut bytes, too_long)
 }
 
 fn main(rt: HostRuntime) -> io::Result<()> {
     let limit = stack::limit(&rt);
-    if !run_in_first(&rt, limit, 2)? {
-        print(
+    if LARGE_STACK <= limit {
+        run_in::<LARGE_ARRAY>(&rt, "more than 16777216 bytes: no page is longer")
+    } else if SMALL_STACK <= limit {
+        run_in::<SMALL_ARRAY>(
             &rt,
-            b"no page is read: it would lie on the stack, which may have less than 5767168 bytes here; with ulimit -s 5632 or more, page takes 5242880\n",
-        )?;
+            "more than 5242880 bytes: a page lies on the stack, which may have less than 25165824 bytes here; with ulimit -s 24576 or more, page takes 16777216",
+        )
+    } else {
+        rt.println(
+            "no page is read: it would lie on the stack, which may have less than 5767168 bytes here; with ulimit -s 5632 or more, page takes 5242880",
+        )
     }
-    Ok(())
 }

@@ -1,5 +1,5 @@
 // What the stack may have, as the system tells it in the file /proc/self/limits.
-use crate::{Input, read_page};
+use crate::read_page;
 use std::fs;
 use std::rt::Files;
 
@@ -17,7 +17,7 @@ fn limit_in(text: &str) -> Option<u64> {
 fn limit_told(rt: &impl Files) -> Option<u64> {
     let mut file = fs::open(rt, "/proc/self/limits").ok()?;
     let mut bytes = [0u8; 4096];
-    let Input { end, .. } = read_page(&mut file, &mut bytes);
+    let end = read_page(&mut file, &mut bytes).ok()?;
     let text = str::from_utf8(&bytes[..end]).ok()?;
     limit_in(text)
 }

@@ -1,17 +1,17 @@
 -- A pane that a write lets through is read back, anywhere in a buffer.
+use lib.Dec.{lit≤}
 use mathlib.Core.Path.{◌≡◌}
 use Prim.Native.Nat.{ℕ, ◌+◌, ◌≤◌}
 use native.Mathlib.Nat.{add-zero}
 use native.Mathlib.Omega.{arith}
 use mathlib.Core.List.{List}
 use lib.ListN.{length, take, length-append, length-take}
-use Rattle.core_read.specs.Taken.{advanced, stop_if, string24_of, string8_of}
+use Rattle.core_read.specs.Taken.{advanced, stop_if, string_of}
 use Rattle.core_read.specs.declared.cursor.ByteOrder.{ByteOrder}
 use Rattle.core_read.specs.declared.cursor.Cursor.{Cursor}
-use Rattle.core_read.specs.declared.cursor.Place.TheVariants.{At}
 use Rattle.core_read.proofs.Numbers.{length_bytes}
 use Rattle.core_read.proofs.Cursors.{advanced_zero}
-use Rattle.core_read.proofs.Back.{Holds, cut, number_at_lem, string24_at, string8_at, string24_text, string8_text, length_fixed}
+use Rattle.core_read.proofs.Back.{Holds, cut, number_at_lem, string_at, string_text, length_fixed}
 use Rattle.flags.specs.Fields.{pane_flags_number, position_number, flag_ex_number}
 use Rattle.flags.proofs.Fields.{pane_flags_back, pane_flags_fit, position_back, position_fit, flag_ex_back, flag_ex_fit}
 use Rattle.ui2d.proofs.Parts.{length_vector2, length_vector3, vector2_at, vector3_at}
@@ -21,6 +21,7 @@ use Rattle.pane_read.specs.Typed.{TypedPane}
 use Rattle.pane_read.specs.declared.Pane.{Pane}
 use Rattle.pane_read.specs.declared.PaneTaken.{PaneTaken}
 use Rattle.pane.proofs.Cleared.{Good, sound}
+use Rattle.std.specs.Prelude.{Ok}
 
 -- what reading a pane that was written gives: the same, with zeros after the names
 unfoldable pub read_back : Pane → Pane
@@ -29,8 +30,8 @@ read_back b = record {
   position = b.position;
   alpha = b.alpha;
   flag_ex = b.flag_ex;
-  pane_name = string24_of (text24 b.pane_name);
-  user_name = string8_of (text8 b.user_name);
+  pane_name = string_of 24 (text24 b.pane_name);
+  user_name = string_of 8 (text8 b.user_name);
   translation = b.translation;
   rotation = b.rotation;
   scale = b.scale;
@@ -72,7 +73,7 @@ length_pane order b h = rw (length-append, length_head order b h, length_transfo
 module _ {s : List ℕ} (c : Cursor) (order : ByteOrder) where
   -- THE PANE
   pane_from : (b : Pane) → TypedPane b → Good b → Holds s (c.pos + 0) (encode_pane order b)
-      → ◌≡◌ {A = PaneTaken} (pane_taken order s (At (advanced c 0))) (record { pane = read_back b; then = At (advanced c 76) })
+      → ◌≡◌ {A = PaneTaken} (pane_taken order s (Ok (advanced c 0))) (record { pane = read_back b; then = Ok (advanced c 76) })
   unfolding encode_pane encode_head encode_transform pane_taken read_back
   pane_from b t g a =
       let (head, tail) = cut c 0 36 (encode_head order b) (encode_transform order b) (length_head order b (sound b g)) a in
@@ -91,8 +92,8 @@ module _ {s : List ℕ} (c : Cursor) (order : ByteOrder) where
         number_at_lem c order 1 1 (position_number b.position) (position_fit b.position) a₂,
         number_at_lem c order 2 1 b.alpha t.alpha a₃,
         number_at_lem c order 3 1 (flag_ex_number b.flag_ex) (flag_ex_fit b.flag_ex) a₄,
-        string24_at c 4 (text24 b.pane_name) n g.name.text a₅,
-        string8_at c 28 (text8 b.user_name) u g.user.text a₆,
+        string_at c 24 4 (text24 b.pane_name) (lit≤ tt) n g.name.text a₅,
+        string_at c 8 28 (text8 b.user_name) (lit≤ tt) u g.user.text a₆,
         vector3_at c order 36 b.translation t.translation a₇,
         vector3_at c order 48 b.rotation t.rotation a₈,
         vector2_at c order 60 b.scale t.scale a₉,
@@ -103,13 +104,13 @@ module _ {s : List ℕ} (c : Cursor) (order : ByteOrder) where
       )
 
   pub pane_back : (b : Pane) → TypedPane b → Good b → Holds s c.pos (encode_pane order b)
-      → ◌≡◌ {A = PaneTaken} (pane_taken order s (At c)) (record { pane = read_back b; then = At (advanced c 76) })
+      → ◌≡◌ {A = PaneTaken} (pane_taken order s (Ok c)) (record { pane = read_back b; then = Ok (advanced c 76) })
   pane_back b t g a =
       let h : Holds s (c.pos + 0) (encode_pane order b) = rw (add-zero c.pos) a in
       rw (advanced_zero c) at (pane_from b t g h)
 
 -- check 7 lets it through
-pub texts_back : (b : Pane) → Good b → (c : Cursor) (body : ℕ) → texts_checked (At c) (read_back b) body ≡ At c
+pub texts_back : (b : Pane) → Good b → (c : Cursor) (body : ℕ) → texts_checked (Ok c) (read_back b) body ≡ Ok c
 unfolding texts_checked read_back name_ill stop_if
 texts_back b g c body =
-    rw (string24_text (text24 b.pane_name), string8_text (text8 b.user_name), g.name.formed, g.user.formed)
+    rw (string_text 24 (text24 b.pane_name), string_text 8 (text8 b.user_name), g.name.formed, g.user.formed)

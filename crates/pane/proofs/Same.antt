@@ -1,7 +1,7 @@
 -- Equality of base panes: what is read back is equal to what was written, equal panes have equal bytes, and two that are equal to a third are equal.
 use mathlib.Core.Path.{◌≡◌, refl, sym, ◌∙◌}
 use Rattle.core_read.specs.declared.cursor.ByteOrder.{ByteOrder}
-use Rattle.core_read.proofs.Back.{string24_text, string8_text}
+use Rattle.core_read.proofs.Back.{string_text}
 use Rattle.pane_read.specs.Pane.{text24, text8, encode_head, encode_transform, encode_pane}
 use Rattle.pane.specs.Same.{SamePane}
 use Rattle.pane_read.specs.declared.Pane.{Pane}
@@ -14,8 +14,8 @@ read_same b = record {
   position = refl;
   alpha = refl;
   ex = refl;
-  name = string24_text (text24 b.pane_name);
-  user = string8_text (text8 b.user_name);
+  name = string_text 24 (text24 b.pane_name);
+  user = string_text 8 (text8 b.user_name);
   translation = refl;
   rotation = refl;
   scale = refl;

@@ -1,17 +1,14 @@
 -- The body calls of a base pane.
-use Rattle.std.specs.Prelude.{ℕ, ◌+◌, List, length}
+use Rattle.std.specs.Prelude.{ℕ, ◌+◌, List, length, None}
 use Rattle.core_read.specs.Bytes.{splice}
-use Rattle.core_checks.specs.Checks.{body_start, end_checked, reach_checked, parsed_of, unless_refused, written_of}
+use Rattle.core_checks.specs.Checks.{body_start, end_checked, reach_checked, unless_refused, written_of, Extent, Written}
 use Rattle.core_read.specs.declared.cursor.ByteOrder.{ByteOrder}
-use Rattle.core_read.specs.declared.cursor.Place.{Place}
-use Rattle.core_checks.specs.declared.checks.Extent.{Extent}
-use Rattle.core_checks.specs.declared.checks.Extent.TheVariants.{Buffer}
-use Rattle.core_checks.specs.declared.checks.Written.{Written}
 use Rattle.pane_read.specs.Pane.{pane_taken, blank_pane, encode_pane}
 use Rattle.pane_checks.specs.Checks.{texts_checked, names_checked, reserve_checked}
 use Rattle.pane_read.specs.declared.Pane.{Pane}
 use Rattle.pane_read.specs.declared.PaneTaken.{PaneTaken}
 use Rattle.pane.specs.declared.body.PaneParsed.{PaneParsed}
+use Rattle.core_read.specs.Taken.{Place}
 
 -- what is measured from a place p of the run, of a body at B: the fields with 4, then 7 and, in a section, 19
 unfoldable pub pane_measured : ByteOrder → List ℕ → Place → ℕ → Extent → PaneTaken
@@ -21,14 +18,14 @@ pane_measured order s p body extent =
 
 -- what a read gives of it, blank where the run was refused
 unfoldable pub pane_given : PaneTaken → PaneParsed
-pane_given m = record { answer = parsed_of m.then; pane = unless_refused m.then blank_pane m.pane }
+pane_given m = record { answer = m.then; pane = unless_refused m.then blank_pane m.pane }
 
 unfoldable pub pane_read : ByteOrder → List ℕ → Place → ℕ → Extent → PaneParsed
 pane_read order s p body extent = pane_given (pane_measured order s p body extent)
 
 -- THE BODY READ at B of s: 1, 2, and then so, in all of the buffer
 unfoldable pub pane_parsed : ByteOrder → List ℕ → ℕ → PaneParsed
-pane_parsed order s body = pane_read order s (body_start (length s) body) body Buffer
+pane_parsed order s body = pane_read order s (body_start (length s) body) body None
 
 -- 1, 2, 9, 10 and 16 of a write into n bytes
 unfoldable pub pane_write_checked : Pane → ℕ → ℕ → Place

@@ -19,15 +19,15 @@ fn put_head(order: ByteOrder, out: &mut [u8], p: usize, b: Pane) -> usize
     let f = b.pane_flags;
     let g = b.position;
     let x = b.flag_ex;
-    let flags = f.encode();
-    let position = g.encode();
-    let flag_ex = x.encode();
+    let flags = u8::from(f);
+    let position = u8::from(g);
+    let flag_ex = u8::from(x);
     let q = writer::put_u8(order, out, p, flags);
     let q = writer::put_u8(order, out, q, position);
     let q = writer::put_u8(order, out, q, b.alpha);
     let q = writer::put_u8(order, out, q, flag_ex);
-    let q = writer::put_string24(out, q, b.pane_name);
-    writer::put_string8(out, q, b.user_name)
+    let q = writer::put_fixed_string(out, q, b.pane_name);
+    writer::put_fixed_string(out, q, b.user_name)
 }
 
 // Translation, rotation, scale and size, 40 bytes.

@@ -1,8 +1,7 @@
 -- The checks of a base pane.
 use Rattle.std.specs.Prelude.{ℕ, ◌+◌, Bool, not, ◌||◌, List, take, ltb}
-use Rattle.core_read.specs.Taken.{stop_if, has_zero}
+use Rattle.core_read.specs.Taken.{stop_if, has_zero, Place}
 use Rattle.core_read.specs.declared.error.Refusal.TheVariants.{BadName, Reserve0, IllFormedUtf8}
-use Rattle.core_read.specs.declared.cursor.Place.{Place}
 use Rattle.utf8.specs.Utf8.{well_formed}
 use Rattle.pane_read.specs.declared.Pane.{Pane}
 

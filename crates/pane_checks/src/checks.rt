@@ -1,10 +1,11 @@
 // The checks of a base pane: 7 of one that was read, 9 and 10 of one to write.
 ghost use Rattle.std.specs.Prelude.{◌≡◌, ◌^◌, ◌<◌, length, take};
+ghost use Rattle.core_checks.specs.Answered.{Lets};
 ghost use Rattle.pane_checks.specs.Checks.{name_ill, name_bad, names_checked, reserve_checked, texts_checked};
 
 use core_read::cursor::Place;
 use core_read::error::Refusal;
-use core_read::text::{FixedString8, FixedString24};
+use core_read::text::FixedString;
 use core_read::{cursor, text};
 use pane_read::Pane;
 
@@ -40,56 +41,46 @@ fn name_bad(bytes: &[u8], count: usize) -> bool
     (bytes.len() < count) | zero | ill
 }
 
-fn pane_name_bad(n: FixedString24) -> bool
-    ensures { result ≡ name_bad 24 n.bytes n.count }
+fn string_bad<const N: usize>(n: FixedString<N>) -> bool
+    ensures { result ≡ name_bad N n.entry.bytes n.entry.count }
 {
     let bytes = n.bytes;
     name_bad(&bytes, n.count)
 }
 
-fn user_name_bad(n: FixedString8) -> bool
-    ensures { result ≡ name_bad 8 n.bytes n.count }
-{
-    let bytes = n.bytes;
-    name_bad(&bytes, n.count)
-}
-
-fn pane_name_ill(n: FixedString24) -> bool
-    ensures { result ≡ name_ill n.bytes n.count }
-{
-    let bytes = n.bytes;
-    name_ill(&bytes, n.count)
-}
-
-fn user_name_ill(n: FixedString8) -> bool
-    ensures { result ≡ name_ill n.bytes n.count }
+fn string_ill<const N: usize>(n: FixedString<N>) -> bool
+    ensures { result ≡ name_ill n.entry.bytes n.entry.count }
 {
     let bytes = n.bytes;
     name_ill(&bytes, n.count)
 }
 
 // 9 for the pane name, then for the user name.
-pub fn names_checked(p: Place, b: Pane) -> Place
-    ensures { result ≡ names_checked p b }
+#[tactic(auto, unfolding(crate::specs::Checks::names_checked, core_read::specs::Taken::stop_if))]
+pub fn names_checked(b: Pane) -> Result<(), Refusal>
+    ensures { Lets result (λ p. names_checked p b) }
 {
-    let bad = pane_name_bad(b.pane_name);
-    let user_bad = user_name_bad(b.user_name);
-    let p = cursor::stop_if(p, bad, Refusal::BadName { which: 1 });
-    cursor::stop_if(p, user_bad, Refusal::BadName { which: 2 })
+    if string_bad(b.pane_name) {
+        return Err(Refusal::BadName { which: 1 });
+    }
+    if string_bad(b.user_name) {
+        return Err(Refusal::BadName { which: 2 });
+    }
+    Ok(())
 }
 
 // 10
-pub fn reserve_checked(p: Place, b: Pane) -> Place
-    ensures { result ≡ reserve_checked p b }
+#[tactic(auto, unfolding(crate::specs::Checks::reserve_checked, core_read::specs::Taken::stop_if))]
+pub fn reserve_checked(b: Pane) -> Result<(), Refusal>
+    ensures { Lets result (λ p. reserve_checked p b) }
 {
     let value = b.flag_ex.reserve0;
-    cursor::stop_if(
-        p,
-        31 < value,
-        Refusal::Reserve0 {
+    if 31 < value {
+        return Err(Refusal::Reserve0 {
             value: value as usize,
-        },
-    )
+        });
+    }
+    Ok(())
 }
 
 // 7 for the pane name, then for the user name, of a pane that was read at a place.
@@ -97,8 +88,8 @@ pub fn texts_checked(p: Place, b: Pane, body: usize) -> Place
     requires { body < 2 ^ 32 }
     ensures { result ≡ texts_checked p b body }
 {
-    let ill = pane_name_ill(b.pane_name);
-    let user_ill = user_name_ill(b.user_name);
+    let ill = string_ill(b.pane_name);
+    let user_ill = string_ill(b.user_name);
     let p = cursor::stop_if(
         p,
         ill,

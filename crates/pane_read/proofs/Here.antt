@@ -1,19 +1,17 @@
 -- A pane whose 76 bytes are there: its fields at their offsets.
+use lib.Dec.{lit≤}
 use mathlib.Core.Path.{◌≡◌, sym, ap, ◌∙◌}
 use Prim.Native.Nat.{ℕ, ◌+◌, ◌≤◌}
 use native.Mathlib.Omega.{arith}
 use mathlib.Core.List.{List}
 use lib.ListN.{length, get_or}
 use Rattle.core_read.specs.Bytes.{part}
-use Rattle.core_read.specs.Taken.{start, advanced, up_to_nul, string24_of, string8_of}
+use Rattle.core_read.specs.Taken.{start, advanced, up_to_nul, string_of, Place}
 use Rattle.core_read.specs.declared.cursor.ByteOrder.{ByteOrder}
 use Rattle.core_read.specs.declared.cursor.Cursor.{Cursor}
-use Rattle.core_read.specs.declared.cursor.Place.{Place}
-use Rattle.core_read.specs.declared.cursor.Place.TheVariants.{At}
-use Rattle.core_read.specs.declared.text.FixedString24.{FixedString24}
-use Rattle.core_read.specs.declared.text.FixedString8.{FixedString8}
+use Rattle.core_read.specs.declared.text.FixedString.{FixedString}
 use Rattle.core_read.proofs.Cursors.{pos_start}
-use Rattle.core_read.proofs.Here.{byte_here, byte_there, string24_there, string8_there}
+use Rattle.core_read.proofs.Here.{byte_here, byte_there, string_there}
 use Rattle.flags.specs.Fields.{pane_flags_of, position_of, flag_ex_of}
 use Rattle.flags.specs.declared.position.BflytPosition.{BflytPosition}
 use Rattle.flags.specs.declared.pane.PaneFlags.{PaneFlags}
@@ -24,6 +22,7 @@ use Rattle.ui2d.proofs.Here.{vector2_there, vector3_there, vector2_there_lem, ve
 use Rattle.pane_read.specs.Pane.{pane_taken}
 use Rattle.pane_read.specs.declared.Pane.{Pane}
 use Rattle.pane_read.specs.declared.PaneTaken.{PaneTaken}
+use Rattle.std.specs.Prelude.{Ok}
 
 -- the pane at a place
 abbrev pane_there : ByteOrder → List ℕ → ℕ → Pane
@@ -32,8 +31,8 @@ pane_there order s at = record {
   position = position_of (get_or s (at + 1) 0);
   alpha = get_or s (at + 2) 0;
   flag_ex = flag_ex_of (get_or s (at + 3) 0);
-  pane_name = string24_of (up_to_nul (part 24 s (at + 4)));
-  user_name = string8_of (up_to_nul (part 8 s (at + 28)));
+  pane_name = string_of 24 (up_to_nul (part 24 s (at + 4)));
+  user_name = string_of 8 (up_to_nul (part 8 s (at + 28)));
   translation = vector3_there order s (at + 36);
   rotation = vector3_there order s (at + 48);
   scale = vector2_there order s (at + 60);
@@ -43,7 +42,7 @@ pane_there order s at = record {
 module _ (order : ByteOrder) (s : List ℕ) where
   -- THE PANE AND THE PLACE AFTER IT
   pane_here : (c : Cursor) → c.pos + 76 ≤ length s
-      → ◌≡◌ {A = PaneTaken} (pane_taken order s (At c)) (record { pane = pane_there order s c.pos; then = At (advanced c 76) })
+      → ◌≡◌ {A = PaneTaken} (pane_taken order s (Ok c)) (record { pane = pane_there order s c.pos; then = Ok (advanced c 76) })
   unfolding pane_taken
   pane_here c h =
       rw (
@@ -51,24 +50,24 @@ module _ (order : ByteOrder) (s : List ℕ) where
         byte_there s c 1 order (omega arith),
         byte_there s c 2 order (omega arith),
         byte_there s c 3 order (omega arith),
-        string24_there s c 4 (omega arith),
-        string8_there s c 28 (omega arith),
+        string_there s c 4 24 (lit≤ tt) (omega arith),
+        string_there s c 28 8 (lit≤ tt) (omega arith),
         vector3_there_lem order s c 36 (omega arith),
         vector3_there_lem order s c 48 (omega arith),
         vector2_there_lem order s c 60 (omega arith),
         vector2_there_lem order s c 68 (omega arith),
       )
 
-  pane_start : (at : ℕ) → at + 76 ≤ length s → (pane_taken order s (At (start at))).pane ≡ pane_there order s at
+  pane_start : (at : ℕ) → at + 76 ≤ length s → (pane_taken order s (Ok (start at))).pane ≡ pane_there order s at
   pane_start at h =
       let k : (start at).pos + 76 ≤ length s = rw pos_start h in
       ap (λ t. t.pane) (pane_here (start at) k) ∙ ap (pane_there order s) (pos_start at)
 
   -- as the code makes them
   pub pane_made : (at : ℕ) → at + 76 ≤ length s
-      → (f : PaneFlags) (g : BflytPosition) (e : PaneFlagsEx) (name : FixedString24) (user : FixedString8) (translation rotation : Vector3f) (scale size : Vector2f)
+      → (f : PaneFlags) (g : BflytPosition) (e : PaneFlagsEx) (name : FixedString 24) (user : FixedString 8) (translation rotation : Vector3f) (scale size : Vector2f)
       → f ≡ pane_flags_of (get_or s at 0) → g ≡ position_of (get_or s (at + 1) 0) → e ≡ flag_ex_of (get_or s (at + 3) 0)
-      → name ≡ string24_of (up_to_nul (part 24 s (at + 4))) → user ≡ string8_of (up_to_nul (part 8 s (at + 28)))
+      → name ≡ string_of 24 (up_to_nul (part 24 s (at + 4))) → user ≡ string_of 8 (up_to_nul (part 8 s (at + 28)))
       → translation ≡ vector3_there order s (at + 36) → rotation ≡ vector3_there order s (at + 48)
       → scale ≡ vector2_there order s (at + 60) → size ≡ vector2_there order s (at + 68)
       → ◌≡◌ {A = Pane} (record {
@@ -82,11 +81,11 @@ module _ (order : ByteOrder) (s : List ℕ) where
         rotation = rotation;
         scale = scale;
         size = size;
-      }) (pane_taken order s (At (start at))).pane
+      }) (pane_taken order s (Ok (start at))).pane
   pane_made at h f g e name user translation rotation scale size e₁ e₂ e₃ e₄ e₅ e₆ e₇ e₈ e₉ =
       rw (e₁, e₂, e₃, e₄, e₅, e₆, e₇, e₈, e₉) (sym (pane_start at h))
 
-  pub pane_got : (p : Place) (c d : Cursor) → p ≡ At c → d ≡ advanced c 76 → c.pos + 76 ≤ length s
-      → (b : Pane) → b ≡ (pane_taken order s (At (start c.pos))).pane
-      → ◌≡◌ {A = PaneTaken} (record { pane = b; then = At d }) (pane_taken order s p)
+  pub pane_got : (p : Place) (c d : Cursor) → p ≡ Ok c → d ≡ advanced c 76 → c.pos + 76 ≤ length s
+      → (b : Pane) → b ≡ (pane_taken order s (Ok (start c.pos))).pane
+      → ◌≡◌ {A = PaneTaken} (record { pane = b; then = Ok d }) (pane_taken order s p)
   pane_got p c d here e h b f = rw (here, pane_here c h, e, f, pane_start c.pos h)

@@ -1,29 +1,23 @@
 -- The base pane, 76 bytes: its read field by field, and its bytes.
 use Rattle.std.specs.Prelude.{ℕ, ◌≤◌, List, ◌++◌, take, replicate}
 use Rattle.core_read.specs.Bytes.{bytes_of, fixed}
-use Rattle.core_read.specs.Taken.{u8_taken, string24_taken, string8_taken}
+use Rattle.core_read.specs.Taken.{u8_taken, fixed_string_taken, Place}
+use Rattle.core_read.specs.declared.cursor.Taken.{Taken}
 use Rattle.core_read.specs.declared.cursor.ByteOrder.{ByteOrder}
-use Rattle.core_read.specs.declared.cursor.Place.{Place}
-use Rattle.core_read.specs.declared.cursor.U8Taken.{U8Taken}
-use Rattle.core_read.specs.declared.text.FixedString24.{FixedString24}
-use Rattle.core_read.specs.declared.text.FixedString8.{FixedString8}
-use Rattle.core_read.specs.declared.text.String24Taken.{String24Taken}
-use Rattle.core_read.specs.declared.text.String8Taken.{String8Taken}
+use Rattle.core_read.specs.declared.text.FixedString.{FixedString}
 use Rattle.flags.specs.Fields.{position_of, pane_flags_of, flag_ex_of, position_number, pane_flags_number, flag_ex_number}
 use Rattle.floats.specs.Floats.{float}
 use Rattle.ui2d.specs.Parts.{vector2_taken, vector3_taken, encode_vector2, encode_vector3}
 use Rattle.ui2d.specs.declared.Vector2f.{Vector2f}
 use Rattle.ui2d.specs.declared.Vector3f.{Vector3f}
-use Rattle.ui2d.specs.declared.Vector2Taken.{Vector2Taken}
-use Rattle.ui2d.specs.declared.Vector3Taken.{Vector3Taken}
 use Rattle.pane_read.specs.declared.Pane.{Pane}
 use Rattle.pane_read.specs.declared.PaneTaken.{PaneTaken}
 
 -- a name is its counted bytes
-abbrev pub text24 : FixedString24 → List ℕ
+abbrev pub text24 : FixedString 24 → List ℕ
 text24 n = take n.count n.bytes
 
-abbrev pub text8 : FixedString8 → List ℕ
+abbrev pub text8 : FixedString 8 → List ℕ
 text8 n = take n.count n.bytes
 
 -- ---- reading
@@ -31,16 +25,16 @@ text8 n = take n.count n.bytes
 -- flags, position, alpha, flag_ex, name 24, user name 8, translation 3 floats, rotation 3, scale 2, size 2
 unfoldable pub pane_taken : ByteOrder → List ℕ → Place → PaneTaken
 pane_taken order s p =
-    let flags : U8Taken = u8_taken order s p in
-    let position : U8Taken = u8_taken order s flags.then in
-    let alpha : U8Taken = u8_taken order s position.then in
-    let ex : U8Taken = u8_taken order s alpha.then in
-    let name : String24Taken = string24_taken s ex.then in
-    let user : String8Taken = string8_taken s name.then in
-    let translation : Vector3Taken = vector3_taken order s user.then in
-    let rotation : Vector3Taken = vector3_taken order s translation.then in
-    let scale : Vector2Taken = vector2_taken order s rotation.then in
-    let size : Vector2Taken = vector2_taken order s scale.then in
+    let flags : Taken ℕ = u8_taken order s p in
+    let position : Taken ℕ = u8_taken order s flags.then in
+    let alpha : Taken ℕ = u8_taken order s position.then in
+    let ex : Taken ℕ = u8_taken order s alpha.then in
+    let name : Taken (FixedString 24) = fixed_string_taken 24 s ex.then in
+    let user : Taken (FixedString 8) = fixed_string_taken 8 s name.then in
+    let translation : Taken Vector3f = vector3_taken order s user.then in
+    let rotation : Taken Vector3f = vector3_taken order s translation.then in
+    let scale : Taken Vector2f = vector2_taken order s rotation.then in
+    let size : Taken Vector2f = vector2_taken order s scale.then in
     record {
       pane = record {
         pane_flags = pane_flags_of flags.value;

@@ -4,12 +4,11 @@
 ghost use Rattle.std.specs.Prelude.{◌≡◌, ◌+◌, ◌<◌, length};
 ghost use Rattle.core_read.specs.Bytes.{Room};
 ghost use Rattle.core_read.specs.Taken.{start};
-ghost use Rattle.core_read.specs.declared.cursor.Place.TheVariants.{At};
 ghost use Rattle.pane_read.specs.Pane.{pane_taken, blank_pane};
 ghost use Rattle.pane_read.specs.Typed.{TypedPane};
 
 use core_read::cursor::{ByteOrder, Place};
-use core_read::text::{FixedString8, FixedString24};
+use core_read::text::FixedString;
 use core_read::{cursor, text};
 use flags::pane::{PaneFlags, PaneFlagsEx};
 use flags::position::BflytPosition;
@@ -22,8 +21,8 @@ pub struct Pane {
     pub position: BflytPosition,
     pub alpha: u8,
     pub flag_ex: PaneFlagsEx,
-    pub pane_name: FixedString24,
-    pub user_name: FixedString8,
+    pub pane_name: FixedString<24>,
+    pub user_name: FixedString<8>,
     pub translation: Vector3f,
     pub rotation: Vector3f,
     pub scale: Vector2f,
@@ -50,9 +49,9 @@ fn take_fields(order: ByteOrder, data: &[u8], p: Place) -> PaneTaken
     let p3 = alpha.then;
     let ex = cursor::take_u8(order, data, p3);
     let p4 = ex.then;
-    let name = text::take_string24(data, p4);
+    let name = text::take_fixed_string(data, p4);
     let p5 = name.then;
-    let user = text::take_string8(data, p5);
+    let user = text::take_fixed_string(data, p5);
     let p6 = user.then;
     let translation = ui2d::take_vector3(order, data, p6);
     let p7 = translation.then;
@@ -69,10 +68,10 @@ fn take_fields(order: ByteOrder, data: &[u8], p: Place) -> PaneTaken
     let size_value = size.value;
     let then = size.then;
     let pane = Pane {
-        pane_flags: PaneFlags::decode(flags.value),
-        position: BflytPosition::decode(position.value),
+        pane_flags: PaneFlags::from(flags.value),
+        position: BflytPosition::from(position.value),
         alpha: alpha.value,
-        flag_ex: PaneFlagsEx::decode(ex.value),
+        flag_ex: PaneFlagsEx::from(ex.value),
         pane_name,
         user_name,
         translation: translation_value,
@@ -86,23 +85,23 @@ fn take_fields(order: ByteOrder, data: &[u8], p: Place) -> PaneTaken
 // The pane of the 76 bytes at a place.
 fn pane_at(order: ByteOrder, data: &[u8], at: usize) -> Pane
     requires { Room «data».now at 76 }
-    ensures { result ≡ (pane_taken order «data».now (At (start at))).pane }
+    ensures { result ≡ (pane_taken order «data».now (Ok (start at))).pane }
 {
     let flags = data[at];
     let position = data[at + 1];
     let alpha = data[at + 2];
     let ex = data[at + 3];
-    let pane_name = text::string24_at(data, at + 4);
-    let user_name = text::string8_at(data, at + 28);
+    let pane_name = text::fixed_string_at(data, at + 4);
+    let user_name = text::fixed_string_at(data, at + 28);
     let translation = fixed::vector3_at(order, data, at + 36);
     let rotation = fixed::vector3_at(order, data, at + 48);
     let scale = fixed::vector2_at(order, data, at + 60);
     let size = fixed::vector2_at(order, data, at + 68);
     Pane {
-        pane_flags: PaneFlags::decode(flags),
-        position: BflytPosition::decode(position),
+        pane_flags: PaneFlags::from(flags),
+        position: BflytPosition::from(position),
         alpha,
-        flag_ex: PaneFlagsEx::decode(ex),
+        flag_ex: PaneFlagsEx::from(ex),
         pane_name,
         user_name,
         translation,
@@ -117,20 +116,20 @@ pub fn take_pane(order: ByteOrder, data: &[u8], p: Place) -> PaneTaken
     ensures { result ≡ pane_taken order «data».now p }
 {
     match p {
-        Place::At(c) => {
+        Ok(c) => {
             let at = c.pos;
             if at < data.len() {
                 if 76 <= data.len() - at {
                     let pane = pane_at(order, data, at);
                     return PaneTaken {
                         pane,
-                        then: Place::At(c.advanced(76)),
+                        then: Ok(c.advanced(76)),
                     };
                 }
             }
-            take_fields(order, data, Place::At(c))
+            take_fields(order, data, Ok(c))
         }
-        Place::Refused(why) => take_fields(order, data, Place::Refused(why)),
+        Err(why) => take_fields(order, data, Err(why)),
     }
 }
 
@@ -162,15 +161,15 @@ pub fn blank_pane() -> Pane
     let scale = zero2();
     let size = zero2();
     Pane {
-        pane_flags: PaneFlags::decode(0),
-        position: BflytPosition::decode(0),
+        pane_flags: PaneFlags::from(0),
+        position: BflytPosition::from(0),
         alpha: 0,
-        flag_ex: PaneFlagsEx::decode(0),
-        pane_name: FixedString24 {
+        flag_ex: PaneFlagsEx::from(0),
+        pane_name: FixedString {
             bytes: [0u8; 24],
             count: 0,
         },
-        user_name: FixedString8 {
+        user_name: FixedString {
             bytes: [0u8; 8],
             count: 0,
         },
@@ -187,12 +186,8 @@ fn typed_byte(v: u8)
     ensures { v < 256 }
 {}
 
-fn typed_string24(n: FixedString24)
-    ensures { length n.bytes ≡ 24 }
-{}
-
-fn typed_string8(n: FixedString8)
-    ensures { length n.bytes ≡ 8 }
+fn typed_string<const N: usize>(n: FixedString<N>)
+    ensures { length n.entry.bytes ≡ N }
 {}
 
 // Every pane is one that TypedPane describes.
@@ -201,8 +196,8 @@ pub fn typed_pane(b: Pane)
 {
     typed_byte(b.alpha);
     typed_byte(b.flag_ex.reserve0);
-    typed_string24(b.pane_name);
-    typed_string8(b.user_name);
+    typed_string(b.pane_name);
+    typed_string(b.user_name);
     ui2d::typed_vector3(b.translation);
     ui2d::typed_vector3(b.rotation);
     ui2d::typed_vector2(b.scale);

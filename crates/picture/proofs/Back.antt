@@ -7,11 +7,11 @@ use mathlib.Core.List.{List}
 use lib.ListN.{length, length-append}
 use Rattle.ui2d.proofs.QuadRuns.{count_fit, eight}
 use Rattle.core_read.specs.Bytes.{bytes_of, bytes_of_all}
-use Rattle.core_read.specs.Taken.{Taken, advanced}
+use Rattle.core_read.specs.Taken.{advanced}
+use Rattle.core_read.specs.declared.cursor.Taken.{Taken}
 use Rattle.core_read.specs.Lists.{numbers_taken}
 use Rattle.core_read.specs.declared.cursor.ByteOrder.{ByteOrder}
 use Rattle.core_read.specs.declared.cursor.Cursor.{Cursor}
-use Rattle.core_read.specs.declared.cursor.Place.TheVariants.{At}
 use Rattle.core_read.proofs.Numbers.{length_bytes}
 use Rattle.core_read.proofs.Cursors.{advanced_zero, advanced_more}
 use Rattle.core_read.proofs.Back.{Holds, Fit, length_all, numbers_back, cut, there, number_at_lem}
@@ -20,15 +20,13 @@ use Rattle.ui2d.proofs.Colors.{length_colors, colors_at}
 use Rattle.pane_read.specs.Pane.{Sound}
 use Rattle.pane_read.specs.declared.Pane.{Pane}
 use Rattle.pane.proofs.Back.{length_pane}
-use Rattle.picture_fields.specs.Picture.{shape_taken, picture_taken, quads_of, picture_quads, GoodPicture, shape_byte, shape_length, encode_shape, encode_picture, picture_length}
+use Rattle.picture_fields.specs.Picture.{shape_taken, picture_taken, quads_of, picture_quads, GoodPicture, shape_byte, shape_length, encode_shape, encode_picture, picture_length, ShapeIndex}
 use Rattle.picture.specs.Body.{encode_body, body_length}
 use Rattle.picture_fields.specs.Same.{SamePicture}
 use Rattle.picture_fields.specs.Typed.{TypedShape, TypedPicture}
-use Rattle.picture_fields.specs.declared.ShapeIndex.{ShapeIndex}
-use Rattle.picture_fields.specs.declared.ShapeIndex.TheVariants.{Absent, Index}
 use Rattle.picture_fields.specs.declared.PicturePane.{PicturePane}
-use Rattle.picture_fields.specs.declared.ShapeTaken.{ShapeTaken}
 use Rattle.picture_fields.specs.declared.PictureTaken.{PictureTaken}
+use Rattle.std.specs.Prelude.{None, Ok, Some}
 
 -- what reading a picture that was written gives: the same, with the count of its quads
 unfoldable pub read_back_picture : PicturePane → List ℕ → PicturePane
@@ -47,8 +45,8 @@ read_same x quads = record { colors = refl; material = refl; shape = refl; quads
 
 length_shape : (order : ByteOrder) (x : ShapeIndex) → length (encode_shape order x) ≡ shape_length x
 unfolding encode_shape
-length_shape order Absent = refl
-length_shape order (Index i) = length_bytes order 4 i
+length_shape order None = refl
+length_shape order (Some i) = length_bytes order 4 i
 
 pub length_picture : (order : ByteOrder) (x : PicturePane) (quads : List ℕ) → length x.vertex_colors ≡ 4 → length (encode_picture order x quads) ≡ picture_length x quads
 unfolding encode_picture picture_length
@@ -58,8 +56,8 @@ length_picture order x quads h =
 -- ---- the read
 
 shape_fit : (x : ShapeIndex) → shape_byte x < 256 ^ 1
-shape_fit Absent = omega arith
-shape_fit (Index i) = omega arith
+shape_fit None = omega arith
+shape_fit (Some i) = omega arith
 
 -- where its parts stand
 record Parts (s : List ℕ) (c : Cursor) (order : ByteOrder) (x : PicturePane) (l : List ℕ) : Type 0 where
@@ -72,14 +70,14 @@ record Parts (s : List ℕ) (c : Cursor) (order : ByteOrder) (x : PicturePane) (
 
 module _ {s : List ℕ} (c : Cursor) (order : ByteOrder) where
   numbers_at_lem : (k : ℕ) (l : List ℕ) → Fit 4 l → Holds s (c.pos + k) (bytes_of_all order 4 l)
-      → ◌≡◌ {A = Taken (List ℕ)} (numbers_taken order 4 (length l) s (At (advanced c k))) (record { value = l; then = At (advanced c (k + 4 * length l)) })
+      → ◌≡◌ {A = Taken (List ℕ)} (numbers_taken order 4 (length l) s (Ok (advanced c k))) (record { value = l; then = Ok (advanced c (k + 4 * length l)) })
   numbers_at_lem k l f a = numbers_back (advanced c k) order 4 l f (there c k _ a) ∙ rw advanced_more
 
   shape_at : (k : ℕ) (x : ShapeIndex) → TypedShape x → Holds s (c.pos + k) (encode_shape order x)
-      → ◌≡◌ {A = ShapeTaken} (shape_taken order s (At (advanced c k)) (shape_byte x)) (record { value = x; then = At (advanced c (k + shape_length x)) })
+      → ◌≡◌ {A = Taken ShapeIndex} (shape_taken order s (Ok (advanced c k)) (shape_byte x)) (record { value = x; then = Ok (advanced c (k + shape_length x)) })
   unfolding shape_taken encode_shape
-  shape_at k Absent t a = rw (add-zero k)
-  shape_at k (Index i) t a = rw (number_at_lem c order k 4 i t a)
+  shape_at k None t a = rw (add-zero k)
+  shape_at k (Some i) t a = rw (number_at_lem c order k 4 i t a)
 
   parts : (x : PicturePane) (quads : List ℕ) → TypedPicture x → Holds s (c.pos + 0) (encode_picture order x quads) → Parts s c order x quads
   unfolding encode_picture
@@ -92,8 +90,8 @@ module _ {s : List ℕ} (c : Cursor) (order : ByteOrder) where
       record { colors = a₁; material = a₂; count = a₃; byte = a₄; quads = a₅; shape = a₆ }
 
   picture_from : (x : PicturePane) (quads : List ℕ) → TypedPicture x → GoodPicture quads → Fit 4 quads → Holds s (c.pos + 0) (encode_picture order x quads)
-      → ◌≡◌ {A = PictureTaken} (picture_taken order s (At (advanced c 0)))
-      (record { picture = read_back_picture x quads; quads = At (advanced c 20); then = At (advanced c (picture_length x quads)) })
+      → ◌≡◌ {A = PictureTaken} (picture_taken order s (Ok (advanced c 0)))
+      (record { picture = read_back_picture x quads; quads = Ok (advanced c 20); then = Ok (advanced c (picture_length x quads)) })
   unfolding picture_taken read_back_picture picture_length
   picture_from x quads t g f a =
       let shape : ShapeIndex = x.shape_info_array_index in
@@ -110,20 +108,20 @@ module _ {s : List ℕ} (c : Cursor) (order : ByteOrder) where
 
   -- THE PICTURE
   pub picture_back : (x : PicturePane) (quads : List ℕ) → TypedPicture x → GoodPicture quads → Fit 4 quads → Holds s c.pos (encode_picture order x quads)
-      → ◌≡◌ {A = PictureTaken} (picture_taken order s (At c))
-      (record { picture = read_back_picture x quads; quads = At (advanced c 20); then = At (advanced c (picture_length x quads)) })
+      → ◌≡◌ {A = PictureTaken} (picture_taken order s (Ok c))
+      (record { picture = read_back_picture x quads; quads = Ok (advanced c 20); then = Ok (advanced c (picture_length x quads)) })
   picture_back x quads t g f a =
       let h : Holds s (c.pos + 0) (encode_picture order x quads) = rw (add-zero c.pos) a in
       rw (advanced_zero c) at (picture_from x quads t g f h)
 
   -- its quads
   pub quads_back : (x : PicturePane) (quads : List ℕ) → TypedPicture x → GoodPicture quads → Fit 4 quads → Holds s c.pos (encode_picture order x quads)
-      → picture_quads order s (At c) ≡ quads
+      → picture_quads order s (Ok c) ≡ quads
   unfolding picture_quads quads_of read_back_picture
   quads_back x quads t g f a =
       let h : Holds s (c.pos + 0) (encode_picture order x quads) = rw (add-zero c.pos) a in
       ap (quads_of order s) (picture_back x quads t g f a)
-      ∙ ap (λ (n : ℕ). (numbers_taken order 4 n s (At (advanced c 20))).value) (eight (length quads) g.whole)
+      ∙ ap (λ (n : ℕ). (numbers_taken order 4 n s (Ok (advanced c 20))).value) (eight (length quads) g.whole)
       ∙ ap (λ (u : Taken (List ℕ)). u.value) (numbers_at_lem 20 quads f (parts x quads t h).quads)
 
 -- ---- with the base

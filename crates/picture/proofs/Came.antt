@@ -8,65 +8,64 @@ use native.Mathlib.Omega.{arith}
 use lib.ListN.{length}
 use lib.Dec.{leb, eqb}
 use borrow.Author.Tests.{leb-true}
-use Rattle.core_read.specs.Taken.{Taken, start, advanced, number_taken}
+use Rattle.core_read.specs.Taken.{start, advanced, number_taken, Place}
+use Rattle.core_read.specs.declared.cursor.Taken.{Taken}
 use Rattle.core_read.specs.Lists.{numbers_taken}
 use Rattle.core_read.specs.declared.error.Refusal.{Refusal}
 use Rattle.core_read.specs.declared.cursor.ByteOrder.{ByteOrder}
 use Rattle.core_read.specs.declared.cursor.Cursor.{Cursor}
-use Rattle.core_read.specs.declared.cursor.Place.{Place}
-use Rattle.core_read.specs.declared.cursor.Place.TheVariants.{At, Refused}
 use Rattle.core_read.proofs.Cursors.{pos_advanced}
 use Rattle.core_read.proofs.Lists.{number_here, numbers_stay}
 use Rattle.ui2d.specs.Parts.{colors_taken, color_taken}
-use Rattle.picture_fields.specs.Picture.{shape_taken, picture_taken, quads_of, Measured}
-use Rattle.picture_fields.specs.declared.ShapeTaken.{ShapeTaken}
+use Rattle.picture_fields.specs.Picture.{shape_taken, picture_taken, quads_of, Measured, ShapeIndex}
 use Rattle.picture_fields.specs.declared.PictureTaken.{PictureTaken}
+use Rattle.std.specs.Prelude.{Err, Ok}
 
 -- ---- any run
 
-never : (why : Refusal) (d : Cursor) → Refused why ≡ At d → ⊥
+never : (why : Refusal) (d : Cursor) → Err why ≡ Ok d → ⊥
 never why d e = let z : ◌≡◌ {A = ℕ} 0 1 = cc in omega arith
 
 -- the cursor of a place that has one
 abbrev pub cursor_of : Place → Cursor
-cursor_of (At c) = c
-cursor_of (Refused why) = start 0
+cursor_of (Ok c) = c
+cursor_of (Err why) = start 0
 
 -- a step that a refusal passes: where it ends at a cursor it began at one
-pub from_at : (step : Place → Place) → ((why : Refusal) → step (Refused why) ≡ Refused why) → (p : Place) (d : Cursor) → step p ≡ At d → p ≡ At (cursor_of p)
-from_at step h (At c) d e = refl
-from_at step h (Refused why) d e = absurd (never why d (sym (h why) ∙ e))
+pub from_at : (step : Place → Place) → ((why : Refusal) → step (Err why) ≡ Err why) → (p : Place) (d : Cursor) → step p ≡ Ok d → p ≡ Ok (cursor_of p)
+from_at step h (Ok c) d e = refl
+from_at step h (Err why) d e = absurd (never why d (sym (h why) ∙ e))
 
 module _ (order : ByteOrder) (w : ℕ) (s : List ℕ) where
-  pub number_stays : (why : Refusal) → (number_taken order w s (Refused why)).then ≡ Refused why
+  pub number_stays : (why : Refusal) → (number_taken order w s (Err why)).then ≡ Err why
   unfolding number_taken
   number_stays why = refl
 
-  tested : (t : Bool) (a : Taken ℕ) (v : ℕ) (why : Refusal) (d : Cursor) → (cond t a (record { value = v; then = Refused why })).then ≡ At d → t ≡ true
+  tested : (t : Bool) (a : Taken ℕ) (v : ℕ) (why : Refusal) (d : Cursor) → (cond t a (record { value = v; then = Err why })).then ≡ Ok d → t ≡ true
   tested true a v why d e = refl
   tested false a v why d e = cc
 
   -- a number's bytes are there, and it ends after them
-  pub number_fits : (c d : Cursor) → (number_taken order w s (At c)).then ≡ At d → (c.pos + w ≤ length s) × (d ≡ advanced c w)
+  pub number_fits : (c d : Cursor) → (number_taken order w s (Ok c)).then ≡ Ok d → (c.pos + w ≤ length s) × (d ≡ advanced c w)
   unfolding number_taken
   number_fits c d e =
       let h : c.pos + w ≤ length s = leb-true _ _ (tested (leb (c.pos + w) (length s)) _ _ _ d e) in
-      let k : At (advanced c w) ≡ At d = ap (λ (t : Taken ℕ). t.then) (sym (number_here order w s c h)) ∙ e in
+      let k : Ok (advanced c w) ≡ Ok d = ap (λ (t : Taken ℕ). t.then) (sym (number_here order w s c h)) ∙ e in
       (h, cc)
 
-  pub number_end : (p : Place) (d : Cursor) → (number_taken order w s p).then ≡ At d → d.pos ≤ length s
-  number_end (At c) d e = let (h, k) = number_fits c d e in rw (k, pos_advanced) h
-  number_end (Refused why) d e = absurd (never why d (sym (number_stays why) ∙ e))
+  pub number_end : (p : Place) (d : Cursor) → (number_taken order w s p).then ≡ Ok d → d.pos ≤ length s
+  number_end (Ok c) d e = let (h, k) = number_fits c d e in rw (k, pos_advanced) h
+  number_end (Err why) d e = absurd (never why d (sym (number_stays why) ∙ e))
 
   -- the bytes of n numbers are there
-  pub numbers_fit : (n : ℕ) (c d : Cursor) → c.pos ≤ length s → (numbers_taken order w n s (At c)).then ≡ At d → c.pos + w * n ≤ length s
+  pub numbers_fit : (n : ℕ) (c d : Cursor) → c.pos ≤ length s → (numbers_taken order w n s (Ok c)).then ≡ Ok d → c.pos + w * n ≤ length s
   unfolding numbers_taken
   numbers_fit zero c d h e = omega (arith, mul-zero w)
   numbers_fit (suc n) c d h e =
-      let first : Place = (number_taken order w s (At c)).then in
-      let k : first ≡ At (cursor_of first) = from_at (λ (q : Place). (numbers_taken order w n s q).then) (numbers_stay order w s n) first d e in
+      let first : Place = (number_taken order w s (Ok c)).then in
+      let k : first ≡ Ok (cursor_of first) = from_at (λ (q : Place). (numbers_taken order w n s q).then) (numbers_stay order w s n) first d e in
       let (f, m) = number_fits c (cursor_of first) k in
-      let rest : (numbers_taken order w n s (At (advanced c w))).then ≡ At d = ap (λ (q : Place). (numbers_taken order w n s q).then) (sym (k ∙ ap At m)) ∙ e in
+      let rest : (numbers_taken order w n s (Ok (advanced c w))).then ≡ Ok d = ap (λ (q : Place). (numbers_taken order w n s q).then) (sym (k ∙ ap Ok m)) ∙ e in
       let l : (advanced c w).pos + w * n ≤ length s = numbers_fit n (advanced c w) d (rw pos_advanced f) rest in
       omega (arith, pos_advanced c w, l, mul-suc w n)
 
@@ -83,15 +82,15 @@ unfolding quads_of
 length_quads order s t = length_taken order 4 s (8 * t.picture.quad_count) t.quads
 
 -- a refused run stays so
-shape_test : (t : Bool) (a b : ShapeTaken) (p : Place) → a.then ≡ p → b.then ≡ p → (cond t a b).then ≡ p
+shape_test : (t : Bool) (a b : Taken ShapeIndex) (p : Place) → a.then ≡ p → b.then ≡ p → (cond t a b).then ≡ p
 shape_test true a b p e f = e
 shape_test false a b p e f = f
 
-pub shape_stays : (order : ByteOrder) (s : List ℕ) (byte : ℕ) (why : Refusal) → (shape_taken order s (Refused why) byte).then ≡ Refused why
+pub shape_stays : (order : ByteOrder) (s : List ℕ) (byte : ℕ) (why : Refusal) → (shape_taken order s (Err why) byte).then ≡ Err why
 unfolding shape_taken number_taken
-shape_stays order s byte why = shape_test (eqb byte 0) _ _ (Refused why) refl refl
+shape_stays order s byte why = shape_test (eqb byte 0) _ _ (Err why) refl refl
 
-pub picture_stays : (order : ByteOrder) (s : List ℕ) (why : Refusal) → (picture_taken order s (Refused why)).then ≡ Refused why
+pub picture_stays : (order : ByteOrder) (s : List ℕ) (why : Refusal) → (picture_taken order s (Err why)).then ≡ Err why
 unfolding picture_taken colors_taken color_taken number_taken numbers_taken shape_taken
 picture_stays order s why = refl
 
@@ -100,16 +99,16 @@ module _ (order : ByteOrder) (s : List ℕ) (before : Place) (byte k : ℕ) (d :
   abbrev place : Place
   place = (number_taken order 1 s before).then
 
-  numbers_came : (shape_taken order s (numbers_taken order 4 k s place).then byte).then ≡ At d → (place ≡ At (cursor_of place)) × ((cursor_of place).pos + 4 * k ≤ length s)
+  numbers_came : (shape_taken order s (numbers_taken order 4 k s place).then byte).then ≡ Ok d → (place ≡ Ok (cursor_of place)) × ((cursor_of place).pos + 4 * k ≤ length s)
   numbers_came e =
       let after : Place = (numbers_taken order 4 k s place).then in
-      let h : after ≡ At (cursor_of after) = from_at (λ (q : Place). (shape_taken order s q byte).then) (shape_stays order s byte) after d e in
-      let f : place ≡ At (cursor_of place) = from_at (λ (q : Place). (numbers_taken order 4 k s q).then) (numbers_stay order 4 s k) place (cursor_of after) h in
-      let g : (numbers_taken order 4 k s (At (cursor_of place))).then ≡ At (cursor_of after) = ap (λ (q : Place). (numbers_taken order 4 k s q).then) (sym f) ∙ h in
+      let h : after ≡ Ok (cursor_of after) = from_at (λ (q : Place). (shape_taken order s q byte).then) (shape_stays order s byte) after d e in
+      let f : place ≡ Ok (cursor_of place) = from_at (λ (q : Place). (numbers_taken order 4 k s q).then) (numbers_stay order 4 s k) place (cursor_of after) h in
+      let g : (numbers_taken order 4 k s (Ok (cursor_of place))).then ≡ Ok (cursor_of after) = ap (λ (q : Place). (numbers_taken order 4 k s q).then) (sym f) ∙ h in
       (f, numbers_fit order 4 s k (cursor_of place) (cursor_of after) (number_end order 1 s before (cursor_of place) f) g)
 
 -- a read that came through has its quads there
-pub came_through : (order : ByteOrder) (s : List ℕ) (p : Place) (d : Cursor) (n : ℕ) → (picture_taken order s p).then ≡ At d
+pub came_through : (order : ByteOrder) (s : List ℕ) (p : Place) (d : Cursor) (n : ℕ) → (picture_taken order s p).then ≡ Ok d
     → 2040 ≤ n → Measured s (picture_taken order s p) n
 unfolding picture_taken
 came_through order s p d n e room =

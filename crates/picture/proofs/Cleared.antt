@@ -7,8 +7,6 @@ use lib.ListN.{length}
 use Rattle.core_checks.specs.Checks.{body_start, end_checked}
 use Rattle.core_read.specs.declared.error.Refusal.{Refusal}
 use Rattle.core_read.specs.declared.cursor.Cursor.{Cursor}
-use Rattle.core_read.specs.declared.cursor.Place.{Place}
-use Rattle.core_read.specs.declared.cursor.Place.TheVariants.{At, Refused}
 use Rattle.core_checks.proofs.Checked.{BodyOk, body_started, count_cleared, end_cleared, end_stays}
 use Rattle.pane_checks.specs.Checks.{names_checked, reserve_checked}
 use Rattle.pane_read.specs.declared.Pane.{Pane}
@@ -17,11 +15,16 @@ use Rattle.picture_fields.specs.Picture.{picture_checked, GoodPicture, picture_l
 use Rattle.picture.specs.Body.{body_length, picture_write_checked}
 use Rattle.picture_fields.specs.declared.PicturePane.{PicturePane}
 use Rattle.picture_fields.proofs.Run.{shape_short}
+use Rattle.core_read.specs.Taken.{start, Place}
+use Rattle.std.specs.Prelude.{Err, Ok}
 
 -- check 11
-pub picture_cleared : (p : Place) (quads : List ℕ) (c : Cursor) → picture_checked p quads ≡ At c → (p ≡ At c) × GoodPicture quads
+pub picture_cleared : (p : Place) (quads : List ℕ) (c : Cursor) → picture_checked p quads ≡ Ok c → (p ≡ Ok c) × GoodPicture quads
 unfolding picture_checked
 picture_cleared p quads c e = let (h, w, f) = count_cleared p 1 8 (length quads) c e in (h, record { whole = w; few = f })
+
+pub picture_let : (quads : List ℕ) → ((c : Cursor) → picture_checked (Ok c) quads ≡ Ok c) → GoodPicture quads
+picture_let quads h = (picture_cleared _ quads (start 0) (h (start 0))).1
 
 -- a body that passed it is no long one
 pub picture_short : (x : PicturePane) (quads : List ℕ) → GoodPicture quads → picture_length x quads ≤ 8184
@@ -39,7 +42,7 @@ pub record Accepts (b : Pane) (x : PicturePane) (quads : List ℕ) (n body : ℕ
   pub own : GoodPicture quads
   pub fits : body + body_length x quads ≤ n
 
-pub write_cleared : (b : Pane) (x : PicturePane) (quads : List ℕ) (n body : ℕ) (c : Cursor) → picture_write_checked b x quads n body ≡ At c → Accepts b x quads n body
+pub write_cleared : (b : Pane) (x : PicturePane) (quads : List ℕ) (n body : ℕ) (c : Cursor) → picture_write_checked b x quads n body ≡ Ok c → Accepts b x quads n body
 unfolding picture_write_checked
 write_cleared b x quads n body c e =
     let (h, f) = end_cleared _ _ n c e in
@@ -47,25 +50,3 @@ write_cleared b x quads n body c e =
     let (l, g) = base_cleared _ b c k in
     let (s, m) = body_started n body c l in
     record { place = m; good = g; own = o; fits = f }
-
--- the checks of a write as the code takes them
-module _ (b : Pane) (x : PicturePane) (quads : List ℕ) (n body : ℕ) (p q r t : Place)
-    (e₁ : p ≡ body_start n body) (e₂ : q ≡ names_checked p b) (e₃ : r ≡ reserve_checked q b) (e₄ : t ≡ picture_checked r quads) where
-  pub checks_good : (c : Cursor) → t ≡ At c → GoodPicture quads
-  checks_good c h = (picture_cleared r quads c (sym e₄ ∙ h)).1
-
-  -- the end is no large number
-  pub checks_small : (c : Cursor) → t ≡ At c → (w : ℕ) → w ≡ body_length x quads → body + w < 2 ^ 64
-  checks_small c h w e =
-      let (k, g) = picture_cleared r quads c (sym e₄ ∙ h) in
-      let (l, _) = base_cleared p b c (rw (e₃, e₂) at k) in
-      let (s, o) = body_started n body c (rw e₁ at l) in
-      omega (arith, o.most, o.within, body_short x quads g, e)
-
-  pub checks_end : (c : Cursor) → t ≡ At c → (w : ℕ) → w ≡ body_length x quads → end_checked (At c) (body + w) n ≡ picture_write_checked b x quads n body
-  unfolding picture_write_checked
-  checks_end c h w e = rw (e, ← e₁, ← e₂, ← e₃, ← e₄, h)
-
-  pub checks_refused : (why : Refusal) → t ≡ Refused why → Refused why ≡ picture_write_checked b x quads n body
-  unfolding picture_write_checked
-  checks_refused why h = rw (← e₁, ← e₂, ← e₃, ← e₄) (end_stays t _ n why h)

@@ -1,15 +1,10 @@
 -- The body calls of a picture pane.
-use Rattle.std.specs.Prelude.{◌≡◌, ℕ, ◌+◌, List, ◌++◌, length}
+use Rattle.std.specs.Prelude.{◌≡◌, ℕ, ◌+◌, List, ◌++◌, length, Err, None}
 use Rattle.core_read.specs.Bytes.{splice}
-use Rattle.core_read.specs.Taken.{over}
-use Rattle.core_checks.specs.Checks.{body_start, list_checked, end_checked, reach_checked, parsed_of, unless_refused, written_of}
+use Rattle.core_read.specs.Taken.{over, Place}
+use Rattle.core_checks.specs.Checks.{body_start, list_checked, end_checked, reach_checked, unless_refused, written_of, Extent, Written}
 use Rattle.core_read.specs.declared.error.Refusal.{Refusal}
 use Rattle.core_read.specs.declared.cursor.ByteOrder.{ByteOrder}
-use Rattle.core_read.specs.declared.cursor.Place.{Place}
-use Rattle.core_checks.specs.declared.checks.Extent.{Extent}
-use Rattle.core_checks.specs.declared.checks.Extent.TheVariants.{Buffer}
-use Rattle.core_checks.specs.declared.checks.Parsed.TheVariants as Parseds
-use Rattle.core_checks.specs.declared.checks.Written.{Written}
 use Rattle.pane_read.specs.Pane.{pane_taken, blank_pane, encode_pane}
 use Rattle.pane_checks.specs.Checks.{texts_checked, names_checked, reserve_checked}
 use Rattle.pane_read.specs.declared.Pane.{Pane}
@@ -22,7 +17,7 @@ use Rattle.picture.specs.declared.body.PictureParsed.{PictureParsed}
 
 -- what a refused read gives
 pub record Blank (why : Refusal) (r : PictureParsed) : Type 0 where
-  pub answer : r.answer ≡ Parseds.Refused why
+  pub answer : r.answer ≡ Err why
   pub base : r.base ≡ blank_pane
   pub picture : r.picture ≡ blank_picture
 
@@ -39,7 +34,7 @@ picture_measured order s p body extent =
 unfoldable pub picture_given : PictureMeasured → PictureParsed
 picture_given m =
     record {
-      answer = parsed_of m.then;
+      answer = m.then;
       base = unless_refused m.then blank_pane m.base;
       picture = unless_refused m.then blank_picture m.own.picture;
     }
@@ -60,10 +55,10 @@ picture_start n body k = list_checked (body_start n body) 1 2040 k
 
 -- THE BODY READ at B of s with a list of k numbers, in all of the buffer, and that list after it
 unfoldable pub picture_parsed : ByteOrder → List ℕ → ℕ → ℕ → PictureParsed
-picture_parsed order s body k = picture_read order s (picture_start (length s) body k) body Buffer
+picture_parsed order s body k = picture_read order s (picture_start (length s) body k) body None
 
 unfoldable pub quads_parsed : ByteOrder → List ℕ → ℕ → List ℕ → List ℕ
-quads_parsed order s body old = quads_read order s (picture_start (length s) body (length old)) body Buffer old
+quads_parsed order s body old = quads_read order s (picture_start (length s) body (length old)) body None old
 
 -- ---- writing
 

@@ -1,5 +1,6 @@
 // The body calls of a picture pane: any bytes are read or refused, any pane with its quads is written or refused.
 ghost use Rattle.std.specs.Prelude.{◌≡◌, ◌^◌, ◌<◌, ◌≤◌, length};
+ghost use Rattle.core_checks.specs.Answered.{Clears};
 ghost use Rattle.core_checks.specs.Checks.{parsed_by_number, written_by_number};
 ghost use Rattle.core_read.specs.Bytes.{Room, Put};
 ghost use Rattle.pane_read.specs.Pane.{Sound};
@@ -7,7 +8,6 @@ ghost use Rattle.picture_fields.specs.Picture.{Measured, GoodPicture};
 ghost use Rattle.picture.specs.Body.{Blank, picture_measured, picture_given, quads_filled, picture_read, quads_read, picture_start, picture_parsed, quads_parsed, body_length, encode_body, picture_write_checked, picture_written, picture_output};
 
 use core_checks::checks;
-use core_checks::checks::{Extent, Parsed, Written};
 use core_read::cursor::{ByteOrder, Cursor, Place};
 use core_read::error::Refusal;
 use pane_checks::checks::{names_checked, reserve_checked, texts_checked};
@@ -25,7 +25,7 @@ pub struct PictureMeasured {
 // What a body read gives: its answer, and the pane, blank where it was refused.
 #[derive(Clone, Copy)]
 pub struct PictureParsed {
-    pub answer: Parsed,
+    pub answer: Result<Cursor, Refusal>,
     pub base: Pane,
     pub picture: PicturePane,
 }
@@ -34,7 +34,7 @@ fn refused(why: Refusal) -> PictureParsed
     ensures { Blank why result }
 {
     PictureParsed {
-        answer: Parsed::Refused(why),
+        answer: Err(why),
         base: pane_read::blank_pane(),
         picture: picture_fields::blank_picture(),
     }
@@ -46,7 +46,7 @@ pub fn measure(
     data: &[u8],
     p: Place,
     place: usize,
-    extent: Extent,
+    extent: Option<usize>,
 ) -> PictureMeasured
     requires { place < 2 ^ 32 }
     ensures { result ≡ picture_measured order «data».now p place extent }
@@ -63,16 +63,16 @@ pub fn measure(
 
 // The quads of a pane that was measured and not refused.
 pub fn fill(order: ByteOrder, data: &[u8], m: PictureMeasured, quads: &mut [u32])
-    requires { (c : Cursor) → m.then ≡ Place.At c → Measured «data».now m.own (length quads.old) }
+    requires { (c : Cursor) → m.then ≡ Ok c → Measured «data».now m.own (length quads.old) }
     ensures { quads.new ≡ quads_filled order «data».now m quads.old }
 {
     let then = m.then;
     match then {
-        Place::At(_) => {
+        Ok(_) => {
             let own = m.own;
             picture_fields::fill_picture(order, data, own, quads);
         }
-        Place::Refused(_) => {}
+        Err(_) => {}
     }
 }
 
@@ -85,15 +85,15 @@ pub fn given(m: PictureMeasured) -> PictureParsed
     let picture = own.picture;
     let then = m.then;
     match then {
-        Place::At(c) => {
-            let answer = checks::read_to(c);
+        Ok(c) => {
+            let answer = Ok(c);
             PictureParsed {
                 answer,
                 base,
                 picture,
             }
         }
-        Place::Refused(why) => refused(why),
+        Err(why) => refused(why),
     }
 }
 
@@ -103,7 +103,7 @@ pub fn read(
     data: &[u8],
     p: Place,
     place: usize,
-    extent: Extent,
+    extent: Option<usize>,
     quads: &mut [u32],
 ) -> PictureParsed
     requires { (place < 2 ^ 32) × (2040 ≤ length quads.old) }
@@ -131,8 +131,8 @@ pub fn parse(order: ByteOrder, data: &[u8], place: usize, quads: &mut [u32]) -> 
 {
     let p = read_start(data.len(), place, quads.len());
     match p {
-        Place::At(c) => read(order, data, Place::At(c), place, Extent::Buffer, quads),
-        Place::Refused(why) => refused(why),
+        Ok(c) => read(order, data, Ok(c), place, None, quads),
+        Err(why) => refused(why),
     }
 }
 
@@ -145,20 +145,21 @@ pub fn body_length(x: PicturePane, quads: &[u32]) -> usize
 }
 
 // 1, 2, 9, 10, 11 and 16
-fn write_checked(b: Pane, x: PicturePane, quads: &[u32], length: usize, place: usize) -> Place
-    ensures { result ≡ picture_write_checked b x quads.now length place }
+#[tactic(auto, using(core_checks::proofs::Checked::body_started, crate::proofs::Cleared::picture_let, crate::proofs::Cleared::body_short), unfolding(crate::specs::Body::picture_write_checked, pane_checks::specs::Checks::names_checked, pane_checks::specs::Checks::reserve_checked, picture_fields::specs::Picture::picture_checked, core_checks::specs::Checks::count_checked, core_checks::specs::Checks::end_checked, core_read::specs::Taken::stop_if))]
+fn write_checked(
+    b: Pane,
+    x: PicturePane,
+    quads: &[u32],
+    length: usize,
+    place: usize,
+) -> Result<(), Refusal>
+    ensures { Clears result (picture_write_checked b x quads.now length place) place }
 {
-    let p = checks::body_start(length, place);
-    let p = names_checked(p, b);
-    let p = reserve_checked(p, b);
-    let p = picture_fields::picture_checked(p, quads);
-    match p {
-        Place::At(c) => {
-            let width = body_length(x, quads);
-            checks::end_checked(Place::At(c), place, width, length)
-        }
-        Place::Refused(why) => Place::Refused(why),
-    }
+    checks::body_start(length, place)?;
+    names_checked(b)?;
+    reserve_checked(b)?;
+    picture_fields::picture_checked(quads)?;
+    checks::end_checked(place, body_length(x, quads), length)
 }
 
 // The base, and what the kind adds.
@@ -178,6 +179,7 @@ pub fn put_body(
 }
 
 // The picture pane at a place: checks 1, 2, 9, 10, 11, 16. A refusal leaves the output as it was; an accepted write answers its end, and changes no byte but its own.
+#[tactic(auto, using(crate::proofs::Cleared::write_cleared, pane::proofs::Cleared::sound), unfolding(crate::specs::Body::picture_written, crate::specs::Body::picture_output, core_checks::specs::Checks::written_of, core_checks::specs::Checks::unless_refused))]
 pub fn write(
     order: ByteOrder,
     b: Pane,
@@ -185,17 +187,11 @@ pub fn write(
     quads: &[u32],
     out: &mut [u8],
     place: usize,
-) -> Written
+) -> Result<usize, Refusal>
     ensures value { result ≡ picture_written b x quads.now (length out.old) place }
     ensures out_after { out.new ≡ picture_output order b x quads.now out.old place }
     ensures result_value { written_by_number result ≡ written_by_number (picture_written b x quads.now (length out.old) place) }
 {
-    let p = write_checked(b, x, quads, out.len(), place);
-    match p {
-        Place::At(_) => {
-            let end = put_body(order, out, place, b, x, quads);
-            Written::End(end)
-        }
-        Place::Refused(why) => Written::Refused(why),
-    }
+    write_checked(b, x, quads, out.len(), place)?;
+    Ok(put_body(order, out, place, b, x, quads))
 }

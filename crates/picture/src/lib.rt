@@ -4,4 +4,4 @@
 pub mod body;
 
 pub use body::{parse, write};
-pub use picture_fields::{PicturePane, ShapeIndex, blank_picture};
+pub use picture_fields::{PicturePane, blank_picture};

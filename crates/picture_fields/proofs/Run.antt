@@ -5,27 +5,25 @@ use Prim.Native.Nat.{ℕ, ◌+◌, ◌*◌, ◌/◌, ◌^◌, ◌≤◌, ◌<◌
 use native.Mathlib.Omega.{arith}
 use lib.ListN.{length, drop}
 use Rattle.core_read.specs.Bytes.{bytes_of, bytes_of_all, Room, Put}
-use Rattle.core_read.specs.Taken.{Taken, over}
+use Rattle.core_read.specs.Taken.{over, Place}
+use Rattle.core_read.specs.declared.cursor.Taken.{Taken}
 use Rattle.core_read.specs.Lists.{numbers_taken, numbers_at}
 use Rattle.core_read.specs.declared.cursor.ByteOrder.{ByteOrder}
 use Rattle.core_read.specs.declared.cursor.Cursor.{Cursor}
-use Rattle.core_read.specs.declared.cursor.Place.{Place}
-use Rattle.core_read.specs.declared.cursor.Place.TheVariants.{At}
 use Rattle.core_read.proofs.Lists.{numbers_here, length_numbers}
 use Rattle.core_write.proofs.Puts.{put_none, put_as}
 use Rattle.ui2d.specs.Parts.{encode_colors}
-use Rattle.picture_fields.specs.Picture.{quads_of, Measured, shape_byte, shape_length, encode_shape, encode_picture, picture_length}
+use Rattle.picture_fields.specs.Picture.{quads_of, Measured, shape_byte, shape_length, encode_shape, encode_picture, picture_length, ShapeIndex}
 use Rattle.picture_fields.specs.Typed.{TypedShape}
-use Rattle.picture_fields.specs.declared.ShapeIndex.{ShapeIndex}
-use Rattle.picture_fields.specs.declared.ShapeIndex.TheVariants.{Absent, Index}
 use Rattle.picture_fields.specs.declared.PicturePane.{PicturePane}
 use Rattle.picture_fields.specs.declared.PictureTaken.{PictureTaken}
+use Rattle.std.specs.Prelude.{None, Ok, Some}
 
 -- ---- quads
 
-module _ {s : List ℕ} {n : ℕ} (t : PictureTaken) (m : Measured s t n) (c : Cursor) (e : t.quads ≡ At c) where
+module _ {s : List ℕ} {n : ℕ} (t : PictureTaken) (m : Measured s t n) (c : Cursor) (e : t.quads ≡ Ok c) where
   same_from : m.from ≡ c
-  same_from = let h : At m.from ≡ At c = sym m.here ∙ e in cc
+  same_from = let h : ◌≡◌ {A = Place} (Ok m.from) (Ok c) = sym m.here ∙ e in cc
 
   -- where the code finds the quads
   pub quads_there : t.picture.quad_count < 256 → Room s c.pos (32 * t.picture.quad_count) × (8 * t.picture.quad_count ≤ n)
@@ -47,24 +45,24 @@ module _ {s : List ℕ} {n : ℕ} (t : PictureTaken) (m : Measured s t n) (c : C
 -- ---- a shape index
 
 pub shape_short : (x : ShapeIndex) → shape_length x ≤ 4
-shape_short Absent = omega arith
-shape_short (Index i) = omega arith
+shape_short None = omega arith
+shape_short (Some i) = omega arith
 
-pub typed_absent : (x : ShapeIndex) → x ≡ Absent → TypedShape x
+pub typed_absent : (x : ShapeIndex) → x ≡ None → TypedShape x
 typed_absent x e = rw e tt
 
-pub typed_index : (x : ShapeIndex) (i : ℕ) → x ≡ Index i → i < 256 ^ 4 → TypedShape x
+pub typed_index : (x : ShapeIndex) (i : ℕ) → x ≡ Some i → i < 256 ^ 4 → TypedShape x
 typed_index x i e h = rw e h
 
-pub index_room : (x : ShapeIndex) (i p n : ℕ) → x ≡ Index i → p + shape_length x ≤ n → p + 4 ≤ n
+pub index_room : (x : ShapeIndex) (i p n : ℕ) → x ≡ Some i → p + shape_length x ≤ n → p + 4 ≤ n
 index_room x i p n e h = rw e at h
 
 module _ (order : ByteOrder) (x : ShapeIndex) {o : List ℕ} {p : ℕ} where
-  pub put_absent : x ≡ Absent → Put o p (shape_length x) (encode_shape order x) p o
+  pub put_absent : x ≡ None → Put o p (shape_length x) (encode_shape order x) p o
   unfolding encode_shape
   put_absent e = rw e (put_none o p)
 
-  pub put_index : (i : ℕ) {r : ℕ} {o₁ : List ℕ} → x ≡ Index i → Put o p 4 (bytes_of order 4 i) r o₁ → Put o p (shape_length x) (encode_shape order x) r o₁
+  pub put_index : (i : ℕ) {r : ℕ} {o₁ : List ℕ} → x ≡ Some i → Put o p 4 (bytes_of order 4 i) r o₁ → Put o p (shape_length x) (encode_shape order x) r o₁
   unfolding encode_shape
   put_index i e h = rw e h
 

@@ -1,42 +1,38 @@
 -- What a picture has beyond the base: four vertex colours, material u16, quad count u8, shape byte, quads, and a u32 shape index if the byte is nonzero.
-use Rattle.std.specs.Prelude.{◌≡◌, ℕ, ◌+◌, ◌*◌, ◌/◌, ◌%◌, ◌≤◌, cond, List, [], ◌∷◌, ◌++◌, length, eqb}
+use Rattle.std.specs.Prelude.{◌≡◌, ℕ, ◌+◌, ◌*◌, ◌/◌, ◌%◌, ◌≤◌, cond, List, [], ◌∷◌, ◌++◌, length, eqb, None, Ok, Some, Option}
 use Rattle.core_read.specs.Bytes.{bytes_of, bytes_of_all, Room}
-use Rattle.core_read.specs.Taken.{Taken, u8_taken, u16_taken, u32_taken}
+use Rattle.core_read.specs.Taken.{u8_taken, u16_taken, u32_taken, Place}
+use Rattle.core_read.specs.declared.cursor.Taken.{Taken}
 use Rattle.core_checks.specs.Checks.{count_checked}
 use Rattle.core_read.specs.Lists.{numbers_taken}
 use Rattle.core_read.specs.declared.cursor.ByteOrder.{ByteOrder}
 use Rattle.core_read.specs.declared.cursor.Cursor.{Cursor}
-use Rattle.core_read.specs.declared.cursor.Place.{Place}
-use Rattle.core_read.specs.declared.cursor.Place.TheVariants.{At}
-use Rattle.core_read.specs.declared.cursor.U8Taken.{U8Taken}
-use Rattle.core_read.specs.declared.cursor.U16Taken.{U16Taken}
-use Rattle.core_read.specs.declared.cursor.U32Taken.{U32Taken}
 use Rattle.ui2d.specs.Parts.{colors_taken, encode_colors}
 use Rattle.ui2d.specs.declared.Color4u8.{Color4u8}
-use Rattle.ui2d.specs.declared.ColorsTaken.{ColorsTaken}
-use Rattle.picture_fields.specs.declared.ShapeIndex.{ShapeIndex}
-use Rattle.picture_fields.specs.declared.ShapeIndex.TheVariants.{Absent, Index}
 use Rattle.picture_fields.specs.declared.PicturePane.{PicturePane}
-use Rattle.picture_fields.specs.declared.ShapeTaken.{ShapeTaken}
 use Rattle.picture_fields.specs.declared.PictureTaken.{PictureTaken}
+
+-- nnbfl's Option of the shape index
+abbrev pub ShapeIndex : Type 0
+ShapeIndex = Option ℕ
 
 -- ---- reading
 
 -- a u32 shape index if the byte is nonzero
-unfoldable pub shape_taken : ByteOrder → List ℕ → Place → ℕ → ShapeTaken
+unfoldable pub shape_taken : ByteOrder → List ℕ → Place → ℕ → Taken ShapeIndex
 shape_taken order s p byte =
-    let index : U32Taken = u32_taken order s p in
-    cond (eqb byte 0) (record { value = Absent; then = p }) (record { value = Index index.value; then = index.then })
+    let index : Taken ℕ = u32_taken order s p in
+    cond (eqb byte 0) (record { value = None; then = p }) (record { value = Some index.value; then = index.then })
 
 -- eight floats a quad, kept by their bits
 unfoldable pub picture_taken : ByteOrder → List ℕ → Place → PictureTaken
 picture_taken order s p =
-    let colors : ColorsTaken = colors_taken order s p in
-    let material : U16Taken = u16_taken order s colors.then in
-    let count : U8Taken = u8_taken order s material.then in
-    let shape : U8Taken = u8_taken order s count.then in
+    let colors : Taken (List Color4u8) = colors_taken order s p in
+    let material : Taken ℕ = u16_taken order s colors.then in
+    let count : Taken ℕ = u8_taken order s material.then in
+    let shape : Taken ℕ = u8_taken order s count.then in
     let quads : Taken (List ℕ) = numbers_taken order 4 (8 * count.value) s shape.then in
-    let index : ShapeTaken = shape_taken order s quads.then shape.value in
+    let index : Taken ShapeIndex = shape_taken order s quads.then shape.value in
     record {
       picture = record {
         vertex_colors = colors.value;
@@ -58,7 +54,7 @@ picture_quads order s p = quads_of order s (picture_taken order s p)
 -- the quads of a measured picture are all there, and a list of n numbers has room for as many as a count can be
 pub record Measured (s : List ℕ) (t : PictureTaken) (n : ℕ) : Type 0 where
   pub from : Cursor
-  pub here : t.quads ≡ At from
+  pub here : t.quads ≡ Ok from
   pub there : Room s from.pos (32 * t.picture.quad_count)
   pub room : 2040 ≤ n
 
@@ -70,7 +66,7 @@ unfoldable pub blank_picture : PicturePane
 blank_picture = record {
   vertex_colors = zero_color ∷ zero_color ∷ zero_color ∷ zero_color ∷ [];
   material_index = 0;
-  shape_info_array_index = Absent;
+  shape_info_array_index = None;
   quad_count = 0;
 }
 
@@ -87,17 +83,17 @@ pub record GoodPicture (quads : List ℕ) : Type 0 where
 
 -- the byte is 1 where the record holds a shape index, else 0
 abbrev pub shape_byte : ShapeIndex → ℕ
-shape_byte Absent = 0
-shape_byte (Index i) = 1
+shape_byte None = 0
+shape_byte (Some i) = 1
 
 -- the bytes of a shape index, and how many they are
 unfoldable pub encode_shape : ByteOrder → ShapeIndex → List ℕ
-encode_shape order Absent = []
-encode_shape order (Index i) = bytes_of order 4 i
+encode_shape order None = []
+encode_shape order (Some i) = bytes_of order 4 i
 
 abbrev pub shape_length : ShapeIndex → ℕ
-shape_length Absent = 0
-shape_length (Index i) = 4
+shape_length None = 0
+shape_length (Some i) = 4
 
 -- the count is that of the list's quads
 unfoldable pub encode_picture : ByteOrder → PicturePane → List ℕ → List ℕ

@@ -4,36 +4,25 @@
 ghost use Rattle.std.specs.Prelude.{◌≡◌, ◌^◌, ◌<◌, length};
 ghost use Rattle.core_read.specs.Bytes.{Room, Put};
 ghost use Rattle.core_read.specs.Taken.{over};
+ghost use Rattle.core_checks.specs.Answered.{Lets};
 ghost use Rattle.picture_fields.specs.Picture.{shape_taken, picture_taken, quads_of, Measured, blank_picture, picture_checked, GoodPicture, shape_byte, shape_length, encode_shape, picture_length, encode_picture};
 ghost use Rattle.picture_fields.specs.Typed.{TypedShape, TypedPicture};
 
 use core_checks::checks;
-use core_read::cursor::{ByteOrder, Place};
+use core_read::cursor::{ByteOrder, Place, Taken};
+use core_read::error::Refusal;
 use core_read::{cursor, list};
 use core_write::writer;
 use ui2d::Color4u8;
 use ui2d::material::take_material;
-
-// nnbfl's Option of the shape index.
-#[derive(Clone, Copy)]
-pub enum ShapeIndex {
-    Absent,
-    Index(u32),
-}
 
 // Colours of the corners: top left, top right, bottom left, bottom right. The count is that of the read; a write takes it from the lent list.
 #[derive(Clone, Copy)]
 pub struct PicturePane {
     pub vertex_colors: [Color4u8; 4],
     pub material_index: u16,
-    pub shape_info_array_index: ShapeIndex,
+    pub shape_info_array_index: Option<u32>,
     pub quad_count: u8,
-}
-
-#[derive(Clone, Copy)]
-pub struct ShapeTaken {
-    pub value: ShapeIndex,
-    pub then: Place,
 }
 
 // With the place where the quads begin.
@@ -47,19 +36,19 @@ pub struct PictureTaken {
 // ---- reading
 
 // A shape index where its byte is nonzero.
-fn take_shape(order: ByteOrder, data: &[u8], p: Place, byte: u8) -> ShapeTaken
+fn take_shape(order: ByteOrder, data: &[u8], p: Place, byte: u8) -> Taken<Option<u32>>
     ensures { result ≡ shape_taken order «data».now p byte }
 {
     if byte == 0 {
-        ShapeTaken {
-            value: ShapeIndex::Absent,
+        Taken {
+            value: None,
             then: p,
         }
     } else {
         let index = cursor::take_u32(order, data, p);
         let then = index.then;
-        ShapeTaken {
-            value: ShapeIndex::Index(index.value),
+        Taken {
+            value: Some(index.value),
             then,
         }
     }
@@ -99,11 +88,11 @@ pub fn fill_picture(order: ByteOrder, data: &[u8], taken: PictureTaken, quads: &
     let place = taken.quads;
     let n = taken.picture.quad_count as usize;
     match place {
-        Place::At(c) => {
+        Ok(c) => {
             let at = c.pos;
             ui2d::quads::fill_quads(order, data, at, n, quads);
         }
-        Place::Refused(_) => {}
+        Err(_) => {}
     }
 }
 
@@ -121,7 +110,7 @@ pub fn blank_picture() -> PicturePane
     PicturePane {
         vertex_colors,
         material_index: 0,
-        shape_info_array_index: ShapeIndex::Absent,
+        shape_info_array_index: None,
         quad_count: 0,
     }
 }
@@ -129,27 +118,28 @@ pub fn blank_picture() -> PicturePane
 // ---- writing
 
 // 11
-pub fn picture_checked(p: Place, quads: &[u32]) -> Place
-    ensures { result ≡ picture_checked p quads.now }
+#[tactic(auto, unfolding(crate::specs::Picture::picture_checked))]
+pub fn picture_checked(quads: &[u32]) -> Result<(), Refusal>
+    ensures { Lets result (λ p. picture_checked p quads.now) }
 {
-    checks::count_checked(p, 1, 8, quads.len())
+    checks::count_checked(1, 8, quads.len())
 }
 
-fn shape_byte(x: ShapeIndex) -> u8
+fn shape_byte(x: Option<u32>) -> u8
     ensures { result ≡ shape_byte x }
 {
     match x {
-        ShapeIndex::Absent => 0,
-        ShapeIndex::Index(_) => 1,
+        None => 0,
+        Some(_) => 1,
     }
 }
 
-fn shape_length(x: ShapeIndex) -> usize
+fn shape_length(x: Option<u32>) -> usize
     ensures { result ≡ shape_length x }
 {
     match x {
-        ShapeIndex::Absent => 0,
-        ShapeIndex::Index(_) => 4,
+        None => 0,
+        Some(_) => 4,
     }
 }
 
@@ -162,13 +152,13 @@ pub fn picture_length(x: PicturePane, quads: &[u32]) -> usize
     20 + 4 * quads.len() + shape_length(shape)
 }
 
-fn put_shape(order: ByteOrder, out: &mut [u8], p: usize, x: ShapeIndex) -> usize
+fn put_shape(order: ByteOrder, out: &mut [u8], p: usize, x: Option<u32>) -> usize
     requires { Room out.old p (shape_length x) }
     ensures { Put out.old p (shape_length x) (encode_shape order x) result out.new }
 {
     match x {
-        ShapeIndex::Absent => p,
-        ShapeIndex::Index(index) => writer::put_u32(order, out, p, index),
+        None => p,
+        Some(index) => writer::put_u32(order, out, p, index),
     }
 }
 
@@ -201,12 +191,12 @@ fn typed_index(index: u32)
     ensures { index < 256 ^ 4 }
 {}
 
-fn typed_shape(x: ShapeIndex)
+fn typed_shape(x: Option<u32>)
     ensures { TypedShape x }
 {
     match x {
-        ShapeIndex::Absent => {}
-        ShapeIndex::Index(index) => typed_index(index),
+        None => {}
+        Some(index) => typed_index(index),
     }
 }
 

@@ -4,12 +4,12 @@ use mathlib.Core.Path.{◌≡◌, refl}
 use Prim.Native.Nat.{ℕ}
 use mathlib.Core.List.{List, [], ◌∷◌, ◌++◌}
 use Rattle.core_read.specs.Bytes.{spelled, part, number_at}
-use Rattle.core_read.specs.Taken.{start, advanced, moved, sought, stop_if, number_taken, string_taken, string24_taken, string8_taken, up_to_nul}
+use Rattle.core_read.specs.Taken.{start, advanced, moved, sought, stop_if, number_taken, string_taken, fixed_string_taken, up_to_nul}
 use Rattle.core_read.specs.Taken as core
 use Rattle.core_read.specs.Lists.{numbers_taken}
 use Rattle.core_read.specs.Refusals.{accepted, refused}
 use Rattle.core_read.specs.declared.cursor.ByteOrder.TheVariants.{Little}
-use Rattle.core_checks.specs.Checks.{length_checked, body_checked, section_checked, body_start, section_start, list_checked, reach_checked, parsed_of, unless_refused, parsed_by_number}
+use Rattle.core_checks.specs.Checks.{length_checked, body_checked, section_checked, body_start, section_start, list_checked, reach_checked, unless_refused, parsed_by_number}
 use Rattle.utf8.specs.Utf8 as utf8
 use Rattle.utf8.specs.Utf8.{walk, well_formed}
 use Rattle.flags.specs.Fields.{text_flags_of}
@@ -34,6 +34,7 @@ use Rattle.strip_header.specs.declared.Section.TheVariants as Sections
 use Rattle.strip_read.specs.Read as read
 use Rattle.strip_read.specs.Read.{finished, read_body, by_kind, or_refused, refused_with, read_at, read_section}
 use Rattle.strip.proofs.Examples.{zeros, full}
+use Rattle.std.specs.Prelude.{Ok}
 
 -- a text box whose text begins at the buffer's end, with a length of 1: no unit, so the text is sought and not read
 abbrev sought_only : List ℕ
@@ -48,12 +49,12 @@ abbrev no_frames : List ℕ
 no_frames = letter_bytes Wnd1 ++ (140 ∷ zeros 99 ++ (112 ∷ zeros 3 ++ (140 ∷ zeros 31)))
 
 pub record Reaches : Type 0 where
-  pub sought : (read_section Little sought_only 0 full).answer ≡ Sections.Pane 168 176 168
-  pub label : (read_section Little empty_label 0 full).answer ≡ Sections.Pane 168 176 174
-  pub table : (read_section Little no_frames 0 full).answer ≡ Sections.Pane 112 140 132
+  pub sought : (read_section Little sought_only 0 full).answer ≡ Ok (Sections.Pane 168 176 168)
+  pub label : (read_section Little empty_label 0 full).answer ≡ Ok (Sections.Pane 168 176 174)
+  pub table : (read_section Little no_frames 0 full).answer ≡ Ok (Sections.Pane 112 140 132)
 
 pub reaches : Reaches
-unfolding start advanced moved sought letter_bytes kind_of read_section read_start section_start length_checked section_checked list_checked stop_if or_refused read_at header_taken size_bad by_kind read_body body_read parsed_of unless_refused finished refused_with pane_taken string24_taken string8_taken vector2_taken vector3_taken color_taken colors_taken number_taken numbers_taken string_taken core.label_taken up_to_nul part number_at spelled texts_checked name_ill well_formed walk text_flags_of text_box_read text_box_given text_box_measured reach_checked text_box_taken assembled fixed.head_taken fixed.font_taken fixed.shadow_taken text_taken text_at label_taken label_at lines_taken lines_at per_character_checked label_checked window_read window_given window_measured window_taken window_of head.head_taken head.sides_taken content_taken frames_taken
+unfolding start advanced moved sought letter_bytes kind_of read_section read_start section_start length_checked section_checked list_checked stop_if or_refused read_at header_taken size_bad by_kind read_body body_read unless_refused finished refused_with pane_taken fixed_string_taken vector2_taken vector3_taken color_taken colors_taken number_taken numbers_taken string_taken core.label_taken up_to_nul part number_at spelled texts_checked name_ill well_formed walk text_flags_of text_box_read text_box_given text_box_measured reach_checked text_box_taken assembled fixed.head_taken fixed.font_taken fixed.shadow_taken text_taken text_at label_taken label_at lines_taken lines_at per_character_checked label_checked window_read window_given window_measured window_taken window_of head.head_taken head.sides_taken content_taken frames_taken
 reaches = record { sought = refl; label = refl; table = refl }
 
 -- ---- Note 4: 19 after 7, and only of a section read
@@ -78,5 +79,5 @@ pub record Keeps : Type 0 where
   pub measured : section_by_number (read.measured Little behind 0).answer ≡ refused 19 96 8
 
 pub keeps : Keeps
-unfolding utf8.table utf8.takes utf8.row_of utf8.fits utf8.sequence_by utf8.sequence alignment_parsed alignment_read alignment_given alignment_measured alignment_taken body_start body_checked read.measured start advanced moved sought letter_bytes kind_of read_section read_start section_start length_checked section_checked list_checked stop_if or_refused read_at header_taken size_bad by_kind read_body body_read parsed_of unless_refused finished refused_with pane_taken string24_taken string8_taken vector2_taken vector3_taken color_taken colors_taken number_taken numbers_taken string_taken core.label_taken up_to_nul part number_at spelled texts_checked name_ill well_formed walk text_flags_of text_box_read text_box_given text_box_measured reach_checked text_box_taken assembled fixed.head_taken fixed.font_taken fixed.shadow_taken text_taken text_at label_taken label_at lines_taken lines_at per_character_checked label_checked window_read window_given window_measured window_taken window_of head.head_taken head.sides_taken content_taken frames_taken
+unfolding utf8.table utf8.takes utf8.row_of utf8.fits utf8.sequence_by utf8.sequence alignment_parsed alignment_read alignment_given alignment_measured alignment_taken body_start body_checked read.measured start advanced moved sought letter_bytes kind_of read_section read_start section_start length_checked section_checked list_checked stop_if or_refused read_at header_taken size_bad by_kind read_body body_read unless_refused finished refused_with pane_taken fixed_string_taken vector2_taken vector3_taken color_taken colors_taken number_taken numbers_taken string_taken core.label_taken up_to_nul part number_at spelled texts_checked name_ill well_formed walk text_flags_of text_box_read text_box_given text_box_measured reach_checked text_box_taken assembled fixed.head_taken fixed.font_taken fixed.shadow_taken text_taken text_at label_taken label_at lines_taken lines_at per_character_checked label_checked window_read window_given window_measured window_taken window_of head.head_taken head.sides_taken content_taken frames_taken
 keeps = record { past = refl; alone = refl; first = refl; sought = refl; measured = refl }

@@ -7,18 +7,18 @@ use native.Mathlib.Omega.{arith}
 use mathlib.Core.List.{List, ◌++◌}
 use lib.ListN.{length, take, length-take, length-append, get_or-append}
 use lib.Seq.{get_or-take}
-use Rattle.core_read.specs.Taken.{start}
+use Rattle.core_read.specs.declared.cursor.Cursor.{Cursor}
+use Rattle.core_read.specs.Taken.{start, Place}
 use Rattle.core_read.specs.declared.cursor.ByteOrder.{ByteOrder}
 use Rattle.core_read.proofs.Cursors.{pos_start, reach_start}
-use Rattle.core_checks.specs.declared.checks.Extent.{Extent}
-use Rattle.core_checks.specs.declared.checks.Parsed.{Parsed}
-use Rattle.core_checks.specs.declared.checks.Parsed.TheVariants as Parseds
 use Rattle.strip_records.specs.Whole.{Lists}
 use Rattle.strip_records.specs.declared.kind.Kind.{Kind}
 use Rattle.reach.specs.Agrees.{Agrees}
 use Rattle.reach.specs.Seen.{BodySeen, body_seen}
 use Rattle.reach.specs.Figures.{Bounds, BodyRefused}
 use Rattle.reach.proofs.ByKind.{body_ran}
+use Rattle.core_checks.specs.Checks.{Extent}
+use Rattle.std.specs.Prelude.{Err, Ok}
 
 -- a buffer agrees with itself, with a longer one, and, up to n, with its first n bytes
 pub agrees_self : (lo r : ℕ) (s : List ℕ) → Agrees lo r s s
@@ -31,17 +31,18 @@ pub agrees_take : (lo r n : ℕ) (s : List ℕ) → r ≤ n → Agrees lo r (tak
 agrees_take lo r n s h = record { long = rw length-take (omega arith); same = λ i l m. get_or-take n s i 0 (omega arith) }
 
 -- what is cut below its reach is refused: were it read, it would be read so of the whole, with a reach within what is left
-module _ (lo : ℕ) (seen : List ℕ → BodySeen) (s : List ℕ) (n end reach : ℕ) (e : (seen s).read.answer ≡ Parseds.Read end reach) (m : n < reach)
-    (within : (end' reach' : ℕ) → (seen (take n s)).read.answer ≡ Parseds.Read end' reach' → reach' ≤ length (take n s))
-    (same : (end' reach' : ℕ) → (seen (take n s)).read.answer ≡ Parseds.Read end' reach' → Agrees lo reach' (take n s) s → seen s ≡ seen (take n s)) where
-  cut_by : (x : Parsed) → (seen (take n s)).read.answer ≡ x → BodyRefused x
-  cut_by (Parseds.Refused why) g = record { why = why; refused = refl }
-  cut_by (Parseds.Read end' reach') g =
+module _ (lo : ℕ) (seen : List ℕ → BodySeen) (s : List ℕ) (n end reach : ℕ) (e : (seen s).read.answer ≡ Ok (record { pos = end; reach = reach })) (m : n < reach)
+    (within : (end' reach' : ℕ) → (seen (take n s)).read.answer ≡ Ok (record { pos = end'; reach = reach' }) → reach' ≤ length (take n s))
+    (same : (end' reach' : ℕ) → (seen (take n s)).read.answer ≡ Ok (record { pos = end'; reach = reach' }) → Agrees lo reach' (take n s) s → seen s ≡ seen (take n s)) where
+  cut_by : (x : Place) → (seen (take n s)).read.answer ≡ x → BodyRefused x
+  cut_by (Err why) g = record { why = why; refused = refl }
+  cut_by (Ok c) g =
       let t = length-take n s in
-      let w = within end' reach' g in
-      let v = same end' reach' g (agrees_take lo reach' n s (omega (arith, w, t))) in
-      let y : ◌≡◌ {A = Parsed} (Parseds.Read end reach) (Parseds.Read end' reach') = sym e ∙ ap (λ (x : BodySeen). x.read.answer) v ∙ g in
-      let z : reach ≡ reach' = cc in
+      let w = within c.pos c.reach g in
+      let v = same c.pos c.reach g (agrees_take lo c.reach n s (omega (arith, w, t))) in
+      let y : ◌≡◌ {A = Place} (Ok (record { pos = end; reach = reach })) (Ok c) = sym e ∙ ap (λ (x : BodySeen). x.read.answer) v ∙ g in
+      let d : ◌≡◌ {A = Cursor} (record { pos = end; reach = reach }) c = cc in
+      let z : reach ≡ c.reach = ap (λ (x : Cursor). x.reach) d in
       absurd (omega (arith, z, w, t))
 
   pub cut_of : BodyRefused (seen (take n s)).read.answer
@@ -49,7 +50,7 @@ module _ (lo : ℕ) (seen : List ℕ → BodySeen) (s : List ℕ) (n end reach :
 
 module _ (order : ByteOrder) (k : Kind) (body : ℕ) (z : Extent) (l : Lists) where
   abbrev Accepted : List ℕ → ℕ → ℕ → Type 0
-  Accepted s end reach = (body_seen order k body z l s).read.answer ≡ Parseds.Read end reach
+  Accepted s end reach = (body_seen order k body z l s).read.answer ≡ Ok (record { pos = end; reach = reach })
 
   -- THE PART THAT A PANE NEEDED: the bytes of [B − 8, reach) decide the read. Another buffer, no shorter, that has these bytes there gives the same
   -- answer, record, lists and label

@@ -6,12 +6,10 @@ use mathlib.Core.Bool.{Bool, true, false, cond}
 use mathlib.Core.List.{List}
 use lib.ListN.{length}
 use lib.Dec.{lit≤, eqb}
-use Rattle.core_read.specs.Taken.{number_taken}
+use Rattle.core_read.specs.Taken.{number_taken, Place}
 use Rattle.core_read.specs.Lists.{numbers_taken}
 use Rattle.core_read.specs.declared.cursor.ByteOrder.{ByteOrder}
 use Rattle.core_read.specs.declared.cursor.Cursor.{Cursor}
-use Rattle.core_read.specs.declared.cursor.Place.{Place}
-use Rattle.core_read.specs.declared.cursor.Place.TheVariants.{At}
 use Rattle.core_read.proofs.Cursors.{advanced_zero}
 use Rattle.ui2d.specs.Parts.{colors_taken}
 use Rattle.alignment_fields.specs.Alignment.{alignment_taken}
@@ -19,9 +17,10 @@ use Rattle.picture_fields.specs.Picture.{shape_taken, picture_taken, quads_of}
 use Rattle.reach.specs.Agrees.{Agrees}
 use Rattle.reach.proofs.Steps.{Reads, Took, Owned, told, so, on, owned, none}
 use Rattle.reach.proofs.Fields.{one, two, four, numbers_went, colors_went}
+use Rattle.std.specs.Prelude.{Ok}
 
 module _ (lo r : ℕ) (s s' : List ℕ) (a : Agrees lo r s s') (order : ByteOrder) where
-  pub alignment_went : (body : ℕ) (p : Place) (d : Cursor) → (alignment_taken order s p).then ≡ At d → Owned lo r (length s) body 88 false p d (alignment_taken order s' p ≡ alignment_taken order s p)
+  pub alignment_went : (body : ℕ) (p : Place) (d : Cursor) → (alignment_taken order s p).then ≡ Ok d → Owned lo r (length s) body 88 false p d (alignment_taken order s' p ≡ alignment_taken order s p)
   unfolding alignment_taken
   alignment_went body p d e =
       let p₁ : Place = (number_taken order 4 s p).then in
@@ -38,7 +37,7 @@ module _ (lo r : ℕ) (s s' : List ℕ) (a : Agrees lo r s s') (order : ByteOrde
   abbrev shape_width : ℕ → ℕ
   shape_width byte = cond (eqb byte 0) 0 4
 
-  shape_by : (byte : ℕ) (b : Bool) → eqb byte 0 ≡ b → (p : Place) (d : Cursor) → (shape_taken order s p byte).then ≡ At d
+  shape_by : (byte : ℕ) (b : Bool) → eqb byte 0 ≡ b → (p : Place) (d : Cursor) → (shape_taken order s p byte).then ≡ Ok d
       → Took lo r (length s) (shape_width byte) p d (shape_taken order s' p byte ≡ shape_taken order s p byte)
   unfolding shape_taken
   shape_by byte true f p d e = none _ (Reads _ (shape_width byte) d) (rw f at e) (rw f (record { reads = sym (advanced_zero d); room = λ h. absurd (omega arith) })) (rw f)
@@ -47,7 +46,7 @@ module _ (lo r : ℕ) (s s' : List ℕ) (a : Agrees lo r s s') (order : ByteOrde
       so (told x (Reads _ (shape_width byte) d) (rw f x.how)) (λ u. rw (f, u))
 
   -- with the numbers of its quads
-  pub picture_went : (body : ℕ) (p : Place) (d : Cursor) → (picture_taken order s p).then ≡ At d
+  pub picture_went : (body : ℕ) (p : Place) (d : Cursor) → (picture_taken order s p).then ≡ Ok d
       → Owned lo r (length s) body 96 false p d ((picture_taken order s' p ≡ picture_taken order s p) × (quads_of order s' (picture_taken order s p) ≡ quads_of order s (picture_taken order s p)))
   unfolding picture_taken quads_of
   picture_went body p d e =

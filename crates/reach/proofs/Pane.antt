@@ -5,35 +5,31 @@ use native.Mathlib.Omega.{arith}
 use mathlib.Core.List.{List}
 use lib.ListN.{length}
 use lib.Dec.{lit≤}
-use Rattle.core_read.specs.Taken.{number_taken, string24_taken, string8_taken}
+use Rattle.core_read.specs.Taken.{number_taken, fixed_string_taken, Place}
 use Rattle.core_read.specs.declared.cursor.ByteOrder.{ByteOrder}
 use Rattle.core_read.specs.declared.cursor.Cursor.{Cursor}
-use Rattle.core_read.specs.declared.cursor.Place.{Place}
-use Rattle.core_read.specs.declared.cursor.Place.TheVariants.{At}
 use Rattle.ui2d.specs.Parts.{vector2_taken, vector3_taken}
 use Rattle.pane_read.specs.Pane.{pane_taken}
 use Rattle.reach.specs.Agrees.{Agrees}
 use Rattle.reach.proofs.Steps.{Took, so, on, string_went}
 use Rattle.reach.proofs.Fields.{one, vector2_went, vector3_went}
+use Rattle.std.specs.Prelude.{Ok}
 
 module _ (lo r : ℕ) (s s' : List ℕ) (a : Agrees lo r s s') (order : ByteOrder) where
-  string24_went : (p : Place) (d : Cursor) → (string24_taken s p).then ≡ At d → d.pos < length s → Took lo r (length s) 24 p d (string24_taken s' p ≡ string24_taken s p)
-  unfolding string24_taken
-  string24_went p d e k = so (string_went lo r s s' a 24 (lit≤ tt) p d e k) (λ u. rw u)
+  fixed_went : (n : ℕ) → 0 < n → (p : Place) (d : Cursor) → (fixed_string_taken n s p).then ≡ Ok d → d.pos < length s
+      → Took lo r (length s) n p d (fixed_string_taken n s' p ≡ fixed_string_taken n s p)
+  unfolding fixed_string_taken
+  fixed_went n z p d e k = so (string_went lo r s s' a n z p d e k) (λ u. rw u)
 
-  string8_went : (p : Place) (d : Cursor) → (string8_taken s p).then ≡ At d → d.pos < length s → Took lo r (length s) 8 p d (string8_taken s' p ≡ string8_taken s p)
-  unfolding string8_taken
-  string8_went p d e k = so (string_went lo r s s' a 8 (lit≤ tt) p d e k) (λ u. rw u)
-
-  pub pane_went : (p : Place) (d : Cursor) → (pane_taken order s p).then ≡ At d → Took lo r (length s) 76 p d (pane_taken order s' p ≡ pane_taken order s p)
+  pub pane_went : (p : Place) (d : Cursor) → (pane_taken order s p).then ≡ Ok d → Took lo r (length s) 76 p d (pane_taken order s' p ≡ pane_taken order s p)
   unfolding pane_taken
   pane_went p d e =
       let p₁ : Place = (number_taken order 1 s p).then in
       let p₂ : Place = (number_taken order 1 s p₁).then in
       let p₃ : Place = (number_taken order 1 s p₂).then in
       let p₄ : Place = (number_taken order 1 s p₃).then in
-      let p₅ : Place = (string24_taken s p₄).then in
-      let p₆ : Place = (string8_taken s p₅).then in
+      let p₅ : Place = (fixed_string_taken 24 s p₄).then in
+      let p₆ : Place = (fixed_string_taken 8 s p₅).then in
       let p₇ : Place = (vector3_taken order s p₆).then in
       let p₈ : Place = (vector3_taken order s p₇).then in
       let w₁₀ = vector2_went lo r s s' a order (vector2_taken order s p₈).then d e in
@@ -41,9 +37,9 @@ module _ (lo r : ℕ) (s s' : List ℕ) (a : Agrees lo r s s') (order : ByteOrde
       let w₈ = vector3_went lo r s s' a order p₇ w₉.from w₉.here in
       let w₇ = vector3_went lo r s s' a order p₆ w₈.from w₈.here in
       let r₇ : w₇.from.pos < length s = omega (arith, w₇.how.room (lit≤ tt)) in
-      let w₆ = string8_went p₅ w₇.from w₇.here r₇ in
+      let w₆ = fixed_went 8 (lit≤ tt) p₅ w₇.from w₇.here r₇ in
       let r₆ : w₆.from.pos < length s = omega (arith, w₆.how.room (lit≤ tt)) in
-      let w₅ = string24_went p₄ w₆.from w₆.here r₆ in
+      let w₅ = fixed_went 24 (lit≤ tt) p₄ w₆.from w₆.here r₆ in
       let w₄ = one lo r s s' a order p₃ w₅.from w₅.here in
       let w₃ = one lo r s s' a order p₂ w₄.from w₄.here in
       let w₂ = one lo r s s' a order p₁ w₃.from w₃.here in

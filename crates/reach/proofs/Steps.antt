@@ -9,11 +9,9 @@ use lib.Seq.{drop-cons}
 use lib.Dec.{leb, ltb}
 use borrow.Author.Tests.{leb-true, leb-false, ltb-true, ltb-false, le-ltb}
 use Rattle.core_read.specs.Bytes.{part, number_at}
-use Rattle.core_read.specs.Taken.{advanced, moved, sought, number_taken, string_taken}
+use Rattle.core_read.specs.Taken.{advanced, moved, sought, number_taken, string_taken, Place}
 use Rattle.core_read.specs.declared.cursor.ByteOrder.{ByteOrder}
 use Rattle.core_read.specs.declared.cursor.Cursor.{Cursor}
-use Rattle.core_read.specs.declared.cursor.Place.{Place}
-use Rattle.core_read.specs.declared.cursor.Place.TheVariants.{At, Refused}
 use Rattle.core_read.specs.declared.error.Refusal.{Refusal}
 use Rattle.core_read.specs.declared.error.Refusal.TheVariants.{UnexpectedEof}
 use Rattle.core_read.proofs.Cursors.{advanced_more, pos_advanced, pos_moved, reach_moved, reach_grows, reach_covers, reach_within, reach_level}
@@ -21,12 +19,13 @@ use Rattle.core_read.proofs.Lists.{number_here}
 use Rattle.core_read.proofs.Here.{string_here}
 use Rattle.core_read.proofs.Runs.{short, stays, seek_to, seek_beyond, seek_stays}
 use Rattle.reach.specs.Agrees.{Agrees}
+use Rattle.std.specs.Prelude.{Err, Ok}
 
 -- A step came to d from a cursor of p, in this manner, and looked no less far than the run before it, within the n bytes of s. Where p stands at lo or
 -- above, so does d, and where the run looked no farther than r, the step gives the same of s'
 pub record Went (lo r n : ℕ) (How : Cursor → Type 0) (p : Place) (d : Cursor) (Same : Type 0) : Type 0 where
   pub from : Cursor
-  pub here : p ≡ At from
+  pub here : p ≡ Ok from
   pub how : How from
   pub grows : from.reach ≤ d.reach
   pub within : from.reach ≤ n → d.reach ≤ n
@@ -132,7 +131,7 @@ pub owns_sought : (body k : ℕ) (c d : Cursor) → (c.pos ≡ body + 76 → (bo
 owns_sought body k c d f = record { owns = f; level = λ b. let z : ◌≡◌ {A = ℕ} 0 1 = cc in absurd (omega arith) }
 
 -- a step that reads nothing, and moves nothing
-pub none : {lo r n : ℕ} {p : Place} {d : Cursor} (Same : Type 0) (How : Cursor → Type 0) → p ≡ At d → How d → Same → Went lo r n How p d Same
+pub none : {lo r n : ℕ} {p : Place} {d : Cursor} (Same : Type 0) (How : Cursor → Type 0) → p ≡ Ok d → How d → Same → Went lo r n How p d Same
 none {d = d} Same How e h x = record { from = d; here = e; how = h; grows = omega arith; within = λ l. l; low = λ l. l; same = λ l m. x }
 
 module _ (lo r : ℕ) (s s' : List ℕ) (a : Agrees lo r s s') where
@@ -145,7 +144,7 @@ module _ (lo r : ℕ) (s s' : List ℕ) (a : Agrees lo r s s') where
       rw (drop-cons s at 0 h, drop-cons s' at 0 h', a.same at l (omega arith)) (ap (λ (t : List ℕ). get_or s' at 0 ∷ t) (part_same w (suc at) (omega arith) (omega arith) (omega arith)))
 
   -- w bytes read at c, within s: what follows of the bytes that are the same
-  pub took : (w : ℕ) (c d : Cursor) (Same : Type 0) → 0 < w → c.pos + w ≤ length s → advanced c w ≡ d → (lo ≤ c.pos → c.pos + w ≤ r → Same) → Took lo r (length s) w (At c) d Same
+  pub took : (w : ℕ) (c d : Cursor) (Same : Type 0) → 0 < w → c.pos + w ≤ length s → advanced c w ≡ d → (lo ≤ c.pos → c.pos + w ≤ r → Same) → Took lo r (length s) w (Ok c) d Same
   took w c d Same n fit j f =
       let far = rw j at (reach_covers c w n) in
       record {
@@ -160,23 +159,23 @@ module _ (lo r : ℕ) (s s' : List ℕ) (a : Agrees lo r s s') where
 
   -- ---- a number
 
-  number_went_by : (order : ByteOrder) (w : ℕ) → 0 < w → (c d : Cursor) (b : Bool) → leb (c.pos + w) (length s) ≡ b → (number_taken order w s (At c)).then ≡ At d
-      → Took lo r (length s) w (At c) d (number_taken order w s' (At c) ≡ number_taken order w s (At c))
+  number_went_by : (order : ByteOrder) (w : ℕ) → 0 < w → (c d : Cursor) (b : Bool) → leb (c.pos + w) (length s) ≡ b → (number_taken order w s (Ok c)).then ≡ Ok d
+      → Took lo r (length s) w (Ok c) d (number_taken order w s' (Ok c) ≡ number_taken order w s (Ok c))
   unfolding number_at
   number_went_by order w n c d true e h =
       let fit : c.pos + w ≤ length s = leb-true (c.pos + w) (length s) e in
       let fit' : c.pos + w ≤ length s' = omega (arith, a.long) in
       let v = number_here order w s c fit in
-      let k : ◌≡◌ {A = Place} (At (advanced c w)) (At d) = sym (ap (λ t. t.then) v) ∙ h in
+      let k : ◌≡◌ {A = Place} (Ok (advanced c w)) (Ok d) = sym (ap (λ t. t.then) v) ∙ h in
       let j : advanced c w ≡ d = cc in
       took w c d _ n fit j (λ l m. number_here order w s' c fit' ∙ rw (part_same w c.pos l m fit) (sym v))
   number_went_by order w n c d false e h =
-      let z : ◌≡◌ {A = ℕ} 0 1 = cc (short order w s (At c) c refl (leb-false (c.pos + w) (length s) e)) in absurd (omega arith)
+      let z : ◌≡◌ {A = ℕ} 0 1 = cc (short order w s (Ok c) c refl (leb-false (c.pos + w) (length s) e)) in absurd (omega arith)
 
-  pub number_went : (order : ByteOrder) (w : ℕ) → 0 < w → (p : Place) (d : Cursor) → (number_taken order w s p).then ≡ At d
+  pub number_went : (order : ByteOrder) (w : ℕ) → 0 < w → (p : Place) (d : Cursor) → (number_taken order w s p).then ≡ Ok d
       → Took lo r (length s) w p d (number_taken order w s' p ≡ number_taken order w s p)
-  number_went order w n (At c) d h = number_went_by order w n c d (leb (c.pos + w) (length s)) refl h
-  number_went order w n (Refused why) d h = let z : ◌≡◌ {A = ℕ} 0 1 = cc (stays order w s (Refused why) why refl) in absurd (omega arith)
+  number_went order w n (Ok c) d h = number_went_by order w n c d (leb (c.pos + w) (length s)) refl h
+  number_went order w n (Err why) d h = let z : ◌≡◌ {A = ℕ} 0 1 = cc (stays order w s (Err why) why refl) in absurd (omega arith)
 
   -- ---- a fixed string, of which a byte follows, so that all of it was there
 
@@ -189,44 +188,44 @@ module _ (lo r : ℕ) (s s' : List ℕ) (a : Agrees lo r s s') where
   string_fits w c h k true e = leb-true (c.pos + w) (length s) e
   string_fits w c h k false e = absurd (omega (arith, leb-false (c.pos + w) (length s) e, k, pos_advanced c (length (part w s c.pos)), part_cut w c.pos))
 
-  string_none : (w : ℕ) (c : Cursor) → length s ≤ c.pos → (string_taken w s (At c)).then ≡ Refused (UnexpectedEof c.pos w)
+  string_none : (w : ℕ) (c : Cursor) → length s ≤ c.pos → (string_taken w s (Ok c)).then ≡ Err (UnexpectedEof c.pos w)
   unfolding string_taken
   string_none w c h = rw (le-ltb c.pos (length s) h)
 
-  string_by : (w : ℕ) → 0 < w → (c d : Cursor) (b : Bool) → ltb c.pos (length s) ≡ b → (string_taken w s (At c)).then ≡ At d → d.pos < length s
-      → Took lo r (length s) w (At c) d (string_taken w s' (At c) ≡ string_taken w s (At c))
+  string_by : (w : ℕ) → 0 < w → (c d : Cursor) (b : Bool) → ltb c.pos (length s) ≡ b → (string_taken w s (Ok c)).then ≡ Ok d → d.pos < length s
+      → Took lo r (length s) w (Ok c) d (string_taken w s' (Ok c) ≡ string_taken w s (Ok c))
   unfolding string_taken
   string_by w n c d true e h k =
       let at : c.pos < length s = ltb-true c.pos (length s) e in
-      let i : ◌≡◌ {A = Place} (At (advanced c (length (part w s c.pos)))) (At d) = rw e at h in
+      let i : ◌≡◌ {A = Place} (Ok (advanced c (length (part w s c.pos)))) (Ok d) = rw e at h in
       let i' : advanced c (length (part w s c.pos)) ≡ d = cc in
       let fit : c.pos + w ≤ length s = string_fits w c at (rw i' k) (leb (c.pos + w) (length s)) refl in
       let fit' : c.pos + w ≤ length s' = omega (arith, a.long) in
       let v = string_here w s c n fit in
-      let j' : ◌≡◌ {A = Place} (At (advanced c w)) (At d) = sym (ap (λ t. t.then) v) ∙ h in
+      let j' : ◌≡◌ {A = Place} (Ok (advanced c w)) (Ok d) = sym (ap (λ t. t.then) v) ∙ h in
       let j : advanced c w ≡ d = cc in
       took w c d _ n fit j (λ l m. string_here w s' c n fit' ∙ rw (part_same w c.pos l m fit) (sym v))
   string_by w n c d false e h k = let z : ◌≡◌ {A = ℕ} 0 1 = cc (string_none w c (ltb-false c.pos (length s) e)) in absurd (omega arith)
 
-  string_refused : (w : ℕ) (why : Refusal) → (string_taken w s (Refused why)).then ≡ Refused why
+  string_refused : (w : ℕ) (why : Refusal) → (string_taken w s (Err why)).then ≡ Err why
   unfolding string_taken
   string_refused w why = refl
 
-  pub string_went : (w : ℕ) → 0 < w → (p : Place) (d : Cursor) → (string_taken w s p).then ≡ At d → d.pos < length s
+  pub string_went : (w : ℕ) → 0 < w → (p : Place) (d : Cursor) → (string_taken w s p).then ≡ Ok d → d.pos < length s
       → Took lo r (length s) w p d (string_taken w s' p ≡ string_taken w s p)
-  string_went w n (At c) d h k = string_by w n c d (ltb c.pos (length s)) refl h k
-  string_went w n (Refused why) d h k = let z : ◌≡◌ {A = ℕ} 0 1 = cc (string_refused w why) in absurd (omega arith)
+  string_went w n (Ok c) d h k = string_by w n c d (ltb c.pos (length s)) refl h k
+  string_went w n (Err why) d h k = let z : ◌≡◌ {A = ℕ} 0 1 = cc (string_refused w why) in absurd (omega arith)
 
   -- ---- a seek, to a place at lo or above
 
-  pub seek_went : (to : ℕ) → lo ≤ to → (p : Place) (d : Cursor) → sought s p to ≡ At d → Sought lo r (length s) to p d (sought s' p to ≡ sought s p to)
-  seek_went to l (At c) d h = seek_by to l c d (leb to (length s)) refl h
+  pub seek_went : (to : ℕ) → lo ≤ to → (p : Place) (d : Cursor) → sought s p to ≡ Ok d → Sought lo r (length s) to p d (sought s' p to ≡ sought s p to)
+  seek_went to l (Ok c) d h = seek_by to l c d (leb to (length s)) refl h
     where
-      seek_by : (to : ℕ) → lo ≤ to → (c d : Cursor) (b : Bool) → leb to (length s) ≡ b → sought s (At c) to ≡ At d → Sought lo r (length s) to (At c) d (sought s' (At c) to ≡ sought s (At c) to)
+      seek_by : (to : ℕ) → lo ≤ to → (c d : Cursor) (b : Bool) → leb to (length s) ≡ b → sought s (Ok c) to ≡ Ok d → Sought lo r (length s) to (Ok c) d (sought s' (Ok c) to ≡ sought s (Ok c) to)
       seek_by to l c d true e h =
           let fit : to ≤ length s = leb-true to (length s) e in
           let v = seek_to s c to to refl fit in
-          let k : ◌≡◌ {A = Place} (At (moved c to)) (At d) = sym v ∙ h in
+          let k : ◌≡◌ {A = Place} (Ok (moved c to)) (Ok d) = sym v ∙ h in
           let j : moved c to ≡ d = cc in
           record {
             from = c;
@@ -237,5 +236,5 @@ module _ (lo r : ℕ) (s s' : List ℕ) (a : Agrees lo r s s') where
             low = λ m. rw (← j, pos_moved c to) l;
             same = λ m n. seek_to s' c to to refl (omega (arith, a.long)) ∙ sym v;
           }
-      seek_by to l c d false e h = let z : ◌≡◌ {A = ℕ} 0 1 = cc (seek_beyond s (At c) to c refl (leb-false to (length s) e)) in absurd (omega arith)
-  seek_went to l (Refused why) d h = let z : ◌≡◌ {A = ℕ} 0 1 = cc (seek_stays s (Refused why) to why refl) in absurd (omega arith)
+      seek_by to l c d false e h = let z : ◌≡◌ {A = ℕ} 0 1 = cc (seek_beyond s (Ok c) to c refl (leb-false to (length s) e)) in absurd (omega arith)
+  seek_went to l (Err why) d h = let z : ◌≡◌ {A = ℕ} 0 1 = cc (seek_stays s (Err why) to why refl) in absurd (omega arith)

@@ -6,12 +6,10 @@ use mathlib.Core.Bool.{Bool, true, false}
 use mathlib.Core.List.{List}
 use lib.ListN.{length}
 use lib.Dec.{lit≤, eqb}
-use Rattle.core_read.specs.Taken.{sought}
+use Rattle.core_read.specs.Taken.{sought, Place}
 use Rattle.core_read.specs.Taken as core
 use Rattle.core_read.specs.declared.cursor.ByteOrder.{ByteOrder}
 use Rattle.core_read.specs.declared.cursor.Cursor.{Cursor}
-use Rattle.core_read.specs.declared.cursor.Place.{Place}
-use Rattle.core_read.specs.declared.cursor.Place.TheVariants.{At}
 use Rattle.core_read.proofs.Cursors.{pos_advanced}
 use Rattle.core_read.proofs.Runs.{cleared}
 use Rattle.text_box_fixed.specs.Fixed.{head_taken, font_taken, shadow_taken}
@@ -22,6 +20,7 @@ use Rattle.reach.specs.Agrees.{Agrees}
 use Rattle.reach.proofs.Steps.{Went, Took, Owns, Owned, Home, told, so, after, on, took_covers, any, none, owns_sought, seek_went}
 use Rattle.reach.proofs.Labels.{Stands, label_went}
 use Rattle.reach.proofs.TextBox.{head_went, font_went, shadow_went, text_by, lines_by}
+use Rattle.std.specs.Prelude.{Ok}
 
 -- w fixed bytes, and after them parts, each of which leaves the run where the fixed bytes end, at h
 record Parted (w h : ℕ) (d c : Cursor) : Type 0 where
@@ -43,7 +42,7 @@ box_ends body c d x = owns_sought body 160 c d (λ h.
 
 module _ (lo r : ℕ) (s s' : List ℕ) (a : Agrees lo r s s') where
   -- with its bytes
-  part_went : (body offset : ℕ) → lo ≤ body - 8 → (b : Bool) → eqb offset 0 ≡ b → (p : Place) (d : Cursor) → (label_taken s p body offset).then ≡ At d
+  part_went : (body offset : ℕ) → lo ≤ body - 8 → (b : Bool) → eqb offset 0 ≡ b → (p : Place) (d : Cursor) → (label_taken s p body offset).then ≡ Ok d
       → Home lo r (length s) (body + 160) p d ((label_taken s' p body offset ≡ label_taken s p body offset)
       × (label_of s' (label_taken s p body offset).label ≡ label_of s (label_taken s p body offset).label))
   unfolding label_taken label_at
@@ -60,7 +59,7 @@ module _ (lo r : ℕ) (s s' : List ℕ) (a : Agrees lo r s s') where
       ))
 
   -- with its units, lines and label
-  pub text_box_went : (order : ByteOrder) (body : ℕ) → lo ≤ body - 8 → (p : Place) (d : Cursor) → (text_box_taken order s p body).then ≡ At d
+  pub text_box_went : (order : ByteOrder) (body : ℕ) → lo ≤ body - 8 → (p : Place) (d : Cursor) → (text_box_taken order s p body).then ≡ Ok d
       → Owned lo r (length s) body 160 true p d ((text_box_taken order s' p body ≡ text_box_taken order s p body)
       × (label_of s' (text_box_taken order s p body).text_box.label ≡ label_of s (text_box_taken order s p body).text_box.label)
       × (text_box_units order s' (text_box_taken order s p body) ≡ text_box_units order s (text_box_taken order s p body))

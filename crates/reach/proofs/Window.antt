@@ -6,12 +6,11 @@ use mathlib.Core.Bool.{true}
 use mathlib.Core.List.{List, [], ◌∷◌}
 use lib.ListN.{length}
 use lib.Dec.{lit≤}
-use Rattle.core_read.specs.Taken.{Taken, number_taken, sought}
+use Rattle.core_read.specs.Taken.{number_taken, sought, Place}
+use Rattle.core_read.specs.declared.cursor.Taken.{Taken}
 use Rattle.core_read.specs.Lists.{numbers_taken}
 use Rattle.core_read.specs.declared.cursor.ByteOrder.{ByteOrder}
 use Rattle.core_read.specs.declared.cursor.Cursor.{Cursor}
-use Rattle.core_read.specs.declared.cursor.Place.{Place}
-use Rattle.core_read.specs.declared.cursor.Place.TheVariants.{At}
 use Rattle.ui2d.specs.Parts.{colors_taken}
 use Rattle.window_head.specs.Head.{sides_taken, head_taken}
 use Rattle.window_head.specs.declared.WindowHead.{WindowHead}
@@ -20,13 +19,14 @@ use Rattle.window_read.specs.declared.WindowContent.{WindowContent}
 use Rattle.reach.specs.Agrees.{Agrees}
 use Rattle.reach.proofs.Steps.{Took, Owns, Owned, Some, told, so, on, far, past, any, none, owns_sought, seek_went}
 use Rattle.reach.proofs.Fields.{one, two, four, numbers_went, colors_went}
+use Rattle.std.specs.Prelude.{Ok}
 
 -- after the head the run goes home
 window_ends : (body : ℕ) (c d : Cursor) → c.pos + 28 ≤ d.reach → d.pos ≡ body + 104 → Owns body 104 true d c
 window_ends body c d g h = owns_sought body 104 c d (λ e. (omega (arith, g, e), omega (arith, g, e, h)))
 
 module _ (lo r : ℕ) (s s' : List ℕ) (a : Agrees lo r s s') (order : ByteOrder) where
-  sides_went : (p : Place) (d : Cursor) → (sides_taken order s p).then ≡ At d → Took lo r (length s) 8 p d (sides_taken order s' p ≡ sides_taken order s p)
+  sides_went : (p : Place) (d : Cursor) → (sides_taken order s p).then ≡ Ok d → Took lo r (length s) 8 p d (sides_taken order s' p ≡ sides_taken order s p)
   unfolding sides_taken
   sides_went p d e =
       let p₁ : Place = (number_taken order 2 s p).then in
@@ -37,7 +37,7 @@ module _ (lo r : ℕ) (s s' : List ℕ) (a : Agrees lo r s s') (order : ByteOrde
       let w₁ = two lo r s s' a order p w₂.from w₂.here in
       so (on w₄ (on w₃ (on w₂ w₁))) (λ u. rw (u.0.0.0, u.0.0.1, u.0.1, u.1))
 
-  head_went : (p : Place) (d : Cursor) → (head_taken order s p).then ≡ At d → Took lo r (length s) 28 p d (head_taken order s' p ≡ head_taken order s p)
+  head_went : (p : Place) (d : Cursor) → (head_taken order s p).then ≡ Ok d → Took lo r (length s) 28 p d (head_taken order s' p ≡ head_taken order s p)
   unfolding head_taken
   head_went p d e =
       let p₁ : Place = (sides_taken order s p).then in
@@ -55,7 +55,7 @@ module _ (lo r : ℕ) (s s' : List ℕ) (a : Agrees lo r s s') (order : ByteOrde
       so (on w₇ (on w₆ (on w₅ (on w₄ (on w₃ (on w₂ w₁))))))
       (λ u. rw (u.0.0.0.0.0.0, u.0.0.0.0.0.1, u.0.0.0.0.1, u.0.0.0.1, u.0.0.1, u.0.1, u.1))
 
-  content_went : (p : Place) (d : Cursor) → (content_taken order s p).then ≡ At d → Took lo r (length s) 20 p d (content_taken order s' p ≡ content_taken order s p)
+  content_went : (p : Place) (d : Cursor) → (content_taken order s p).then ≡ Ok d → Took lo r (length s) 20 p d (content_taken order s' p ≡ content_taken order s p)
   unfolding content_taken
   content_went p d e =
       let p₁ : Place = (colors_taken order s p).then in
@@ -66,7 +66,7 @@ module _ (lo r : ℕ) (s s' : List ℕ) (a : Agrees lo r s s') (order : ByteOrde
       let w₁ = colors_went lo r s s' a order p w₂.from w₂.here in
       so (on w₄ (on w₃ (on w₂ w₁))) (λ u. rw (u.0.0.0, u.0.0.1, u.0.1, u.1))
 
-  frame_went : (p : Place) (d : Cursor) → (frame_taken order s p).then ≡ At d → Took lo r (length s) 4 p d (frame_taken order s' p ≡ frame_taken order s p)
+  frame_went : (p : Place) (d : Cursor) → (frame_taken order s p).then ≡ Ok d → Took lo r (length s) 4 p d (frame_taken order s' p ≡ frame_taken order s p)
   unfolding frame_taken
   frame_went p d e =
       let p₁ : Place = (number_taken order 2 s p).then in
@@ -75,7 +75,7 @@ module _ (lo r : ℕ) (s s' : List ℕ) (a : Agrees lo r s s') (order : ByteOrde
       let w₁ = two lo r s s' a order p w₂.from w₂.here in
       so (on w₃ (on w₂ w₁)) (λ u. rw (u.0.0, u.0.1, u.1))
 
-  frames_went : (at : ℕ) → lo ≤ at → (offsets : List ℕ) (p : Place) (d : Cursor) → (frames_taken order s at offsets p).then ≡ At d
+  frames_went : (at : ℕ) → lo ≤ at → (offsets : List ℕ) (p : Place) (d : Cursor) → (frames_taken order s at offsets p).then ≡ Ok d
       → Some lo r (length s) p d (frames_taken order s' at offsets p ≡ frames_taken order s at offsets p)
   unfolding frames_taken
   frames_went at l [] p d e = none _ (λ (c : Cursor). Unit {0}) e tt refl
@@ -87,7 +87,7 @@ module _ (lo r : ℕ) (s s' : List ℕ) (a : Agrees lo r s s') (order : ByteOrde
       so (any w₃ (any w₂ w₁)) (λ u. rw (u.0.0, u.0.1, u.1))
 
   -- with the numbers of its lists
-  pub window_went : (body : ℕ) → lo ≤ body - 8 → (p : Place) (d : Cursor) → (window_taken order s p body).then ≡ At d
+  pub window_went : (body : ℕ) → lo ≤ body - 8 → (p : Place) (d : Cursor) → (window_taken order s p body).then ≡ Ok d
       → Owned lo r (length s) body 104 true p d
       ((window_taken order s' p body ≡ window_taken order s p body)
       × (window_quads order s' (window_taken order s p body) ≡ window_quads order s (window_taken order s p body))

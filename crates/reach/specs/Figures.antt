@@ -1,13 +1,12 @@
 -- Where the figures of an accepted read lie, and what a refused read answers.
-use Rattle.std.specs.Prelude.{◌≡◌, Bool, true, false, ℕ, ◌+◌, ◌≤◌}
+use Rattle.std.specs.Prelude.{◌≡◌, Bool, true, false, ℕ, ◌+◌, ◌≤◌, Err}
 use Rattle.core_read.specs.declared.error.Refusal.{Refusal}
-use Rattle.core_checks.specs.declared.checks.Parsed.{Parsed}
-use Rattle.core_checks.specs.declared.checks.Parsed.TheVariants as Parseds
-use Rattle.strip_header.specs.declared.Section.{Section}
 use Rattle.strip_header.specs.declared.Section.TheVariants as Sections
 use Rattle.strip_records.specs.Kinds.{length_of}
 use Rattle.strip_records.specs.declared.kind.Kind.{Kind}
 use Rattle.strip_records.specs.declared.kind.Kind.TheVariants.{Pan1, Pic1, Txt1, Wnd1, Ali1}
+use Rattle.core_read.specs.Taken.{Place}
+use Rattle.strip_header.specs.Header.{SectionAnswer}
 
 -- a kind whose parts stand at offsets
 abbrev pub seeks : Kind → Bool
@@ -25,10 +24,10 @@ pub record Bounds (k : Kind) (body n end reach : ℕ) : Type 0 where
   pub within : reach ≤ n
   pub straight : seeks k ≡ false → reach ≡ end
 
-pub record BodyRefused (x : Parsed) : Type 0 where
+pub record BodyRefused (x : Place) : Type 0 where
   pub why : Refusal
-  pub refused : x ≡ Parseds.Refused why
+  pub refused : x ≡ Err why
 
-pub record SectionRefused (x : Section) : Type 0 where
+pub record SectionRefused (x : SectionAnswer) : Type 0 where
   pub why : Refusal
-  pub refused : x ≡ Sections.Refused why
+  pub refused : x ≡ Err why

@@ -1,9 +1,7 @@
 -- Whatever a read gives of a buffer.
-use Rattle.std.specs.Prelude.{ℕ, List}
+use Rattle.std.specs.Prelude.{ℕ, List, Ok}
 use Rattle.core_read.specs.Taken.{start}
 use Rattle.core_read.specs.declared.cursor.ByteOrder.{ByteOrder}
-use Rattle.core_read.specs.declared.cursor.Place.TheVariants.{At}
-use Rattle.core_checks.specs.declared.checks.Extent.{Extent}
 use Rattle.strip_records.specs.Whole.{Lists}
 use Rattle.strip_records.specs.declared.kind.Kind.{Kind}
 use Rattle.strip_kinds.specs.Body.{body_read, body_lists, body_parsed, lists_parsed}
@@ -11,6 +9,7 @@ use Rattle.strip_kinds.specs.declared.body.BodyRead.{BodyRead}
 use Rattle.strip_read.specs.Read.{read_section, lists_after}
 use Rattle.strip_read.specs.declared.read.SectionRead.{SectionRead}
 use Rattle.strip.specs.Same.{label_in}
+use Rattle.core_checks.specs.Checks.{Extent}
 
 -- a body read: its answer and record, the lists after it, and the label in the buffer
 pub record BodySeen : Type 0 where
@@ -21,9 +20,9 @@ pub record BodySeen : Type 0 where
 -- of a run that begins at B, after the checks 1 to 3, in a buffer or in a section
 abbrev pub body_seen : ByteOrder → Kind → ℕ → Extent → Lists → List ℕ → BodySeen
 body_seen order k body x l s = record {
-  read = body_read order k s (At (start body)) body x;
-  lists = body_lists order k s (At (start body)) body x l;
-  label = label_in s (body_read order k s (At (start body)) body x).«record»;
+  read = body_read order k s (Ok (start body)) body x;
+  lists = body_lists order k s (Ok (start body)) body x l;
+  label = label_in s (body_read order k s (Ok (start body)) body x).«record»;
 }
 
 -- of the call

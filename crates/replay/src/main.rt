@@ -3,12 +3,15 @@
 // answers are made by the program `answers` of differential/: the sections read, and the bytes that nnbfl writes for them, but for 143 lines that nnbfl has no answer for.
 #![tactic(auto)]
 
-use lines::program::Printed;
+use lines::back::line_written_back;
+use lines::program::print_all;
 use std::io;
 
 fn main(rt: HostRuntime) -> io::Result<()> {
     let mut chunk = [0u8; 4096];
     let mut bytes = [0u8; 4096];
     let mut out = [0u8; 65603];
-    lines::program::print_all(&rt, Printed::WrittenBack, &mut chunk, &mut bytes, &mut out)
+    // A closure, since no proof is found that the named function itself meets what `print_all` requires.
+    let step = |bytes: &[u8], line, out: &mut [u8]| line_written_back(bytes, line, out);
+    print_all(&rt, step, &mut chunk, &mut bytes, &mut out)
 }

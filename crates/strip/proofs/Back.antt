@@ -13,10 +13,8 @@ use Rattle.core_read.specs.Taken.{start, advanced, stop_if}
 use Rattle.core_checks.specs.Checks.{unless_refused}
 use Rattle.core_read.specs.declared.cursor.ByteOrder.{ByteOrder}
 use Rattle.core_read.specs.declared.cursor.ByteOrder.TheVariants.{Little}
-use Rattle.core_read.specs.declared.cursor.Place.TheVariants.{At}
 use Rattle.core_read.proofs.Numbers.{length_bytes}
 use Rattle.core_read.proofs.Cursors.{pos_start, pos_advanced, advanced_zero, reach_start, reach_level}
-use Rattle.core_checks.specs.declared.checks.Extent.TheVariants as Extents
 use Rattle.core_checks.proofs.Checked.{SectionOk, section_passes, list_passes, reach_passes}
 use Rattle.core_read.proofs.Back.{Holds, holds_left, holds_fits, cut, number_at_lem}
 use Rattle.pane.proofs.Cleared.{Good, sound}
@@ -33,18 +31,17 @@ use Rattle.strip_records.specs.Whole.{Lists, Full, Whole}
 use Rattle.strip.specs.Same.{SameOwn, read_whole}
 use Rattle.strip_records.specs.Typed.{Typed}
 use Rattle.strip_read.specs.Read.{finished, read_body, by_kind, lists_by_kind, or_refused, ended_with, read_at, lists_at, read_section, lists_after}
-use Rattle.strip_header.specs.Header.{read_start, size_bad, header_taken}
+use Rattle.strip_header.specs.Header.{read_start, size_bad, header_taken, SectionAnswer}
 use Rattle.strip_write.specs.Write.{body_length, encode_body, section_size, size_of, section, section_end}
 use Rattle.strip_records.specs.declared.kind.Kind.{Kind}
 use Rattle.strip_records.specs.declared.kind.Kind.TheVariants.{Pan1, Pic1, Txt1, Wnd1, Ali1}
-use Rattle.strip_records.specs.declared.kind.KindFound.TheVariants.{Is}
 use Rattle.strip_records.specs.declared.record.Record.{Record}
 use Rattle.strip_header.specs.declared.Header.{Header}
 use Rattle.strip_read.specs.declared.read.SectionRead.{SectionRead}
-use Rattle.strip_header.specs.declared.Section.{Section}
 use Rattle.strip_header.specs.declared.Section.TheVariants as Sections
 use Rattle.strip_write.proofs.Steps.{letters_bytes, size_parts}
 use Rattle.strip.proofs.BackKinds.{GoodWhole, BodyBack, body_end, body_reach, read_record, body_back}
+use Rattle.std.specs.Prelude.{Ok, Some}
 
 -- ---- lengths
 
@@ -120,7 +117,7 @@ letters_fit Txt1 = lit≤ tt
 letters_fit Wnd1 = lit≤ tt
 letters_fit Ali1 = lit≤ tt
 
-letters_kind : (k : Kind) → kind_of (letters_of k) ≡ Is k
+letters_kind : (k : Kind) → kind_of (letters_of k) ≡ Some k
 unfolding kind_of
 letters_kind Pan1 = refl
 letters_kind Pic1 = refl
@@ -135,7 +132,7 @@ size_good n p z h k l = let m : z ≤ n - p = omega arith in rw (le-ltb z 8 h, k
 -- the header, given its two numbers
 header_back : {s : List ℕ} (order : ByteOrder) (p : ℕ) (k : Kind) (z : ℕ) → 8 ≤ z → z % 4 ≡ 0 → p + z ≤ length s → z < 256 ^ 4
     → Holds s ((start p).pos + 0) (letter_bytes k) → Holds s ((start p).pos + 4) (bytes_of order 4 z)
-    → ◌≡◌ {A = Header} (header_taken order s p) (record { letters = letters_of k; size = z; then = At (advanced (start p) 8) })
+    → ◌≡◌ {A = Header} (header_taken order s p) (record { letters = letters_of k; size = z; then = Ok (advanced (start p) 8) })
 unfolding header_taken stop_if
 header_back {s} order p k z a b d e h₁ h₂ =
     let h : Holds s ((start p).pos + 0) (bytes_of Little 4 (letters_of k)) = rw (letters_bytes k) h₁ in
@@ -147,8 +144,8 @@ abbrev pub read_as : ℕ → Whole → Record
 read_as p w = read_record w.pane.kind (advanced (start p) 8) (p + 8) w
 
 -- the answer: the end and the reach of its body, and the end of its padding
-abbrev pub answer_of : ℕ → Whole → Section
-answer_of p w = Sections.Pane (body_end w.pane.kind (p + 8) w) (section_end p w) (body_reach w.pane.kind (p + 8) w)
+abbrev pub answer_of : ℕ → Whole → SectionAnswer
+answer_of p w = Ok (Sections.Pane (body_end w.pane.kind (p + 8) w) (section_end p w) (body_reach w.pane.kind (p + 8) w))
 
 -- it looks at no byte past its own
 pub reach_inside : (p : ℕ) (w : Whole) → body_reach w.pane.kind (p + 8) w ≤ section_end p w
@@ -162,8 +159,8 @@ pub record SectionBack (order : ByteOrder) (s : List ℕ) (p : ℕ) (l : Lists) 
 
 -- its parts
 record Parts (order : ByteOrder) (s : List ℕ) (p : ℕ) (w : Whole) : Type 0 where
-  header : ◌≡◌ {A = Header} (header_taken order s p) (record { letters = letters_of w.pane.kind; size = size_of p w; then = At (advanced (start p) 8) })
-  body : BodyBack order s (advanced (start p) 8) (p + 8) (Extents.Section (section_end p w)) w.pane.kind w
+  header : ◌≡◌ {A = Header} (header_taken order s p) (record { letters = letters_of w.pane.kind; size = size_of p w; then = Ok (advanced (start p) 8) })
+  body : BodyBack order s (advanced (start p) 8) (p + 8) (Some (section_end p w)) w.pane.kind w
 
 parts : {s : List ℕ} (order : ByteOrder) (p : ℕ) (w : Whole) → GoodWhole w → length s ≤ 16777216 → p % 4 ≡ 0 → Holds s p (section order p w) → Parts order s p w
 unfolding section
@@ -183,11 +180,11 @@ parts {s} order p w g small whole h =
     reach_level (start p) (omega (arith, reach_start p, pos_start p)) 8 ∙ omega (arith, pos_advanced (start p) 8) in
     record {
       header = header_back order p k z (size_some n) (size_whole n) f (omega (arith, f, small)) h₁ h₂;
-      body = body_back order (advanced (start p) 8) (p + 8) (Extents.Section (section_end p w)) k w (λ d e. reach_passes d (section_end p w) (omega (arith, e, reach_inside p w))) g.typed g.good g.own (omega arith) (omega arith) here level h₃;
+      body = body_back order (advanced (start p) 8) (p + 8) (Some (section_end p w)) k w (λ d e. reach_passes d (section_end p w) (omega (arith, e, reach_inside p w))) g.typed g.good g.own (omega arith) (omega arith) here level h₃;
     }
 
 pub start_good : (n p : ℕ) (l : Lists) → SectionOk n p → Full l
-    → read_start n p (length l.quads) (length l.units) (length l.lines) (length l.frames) ≡ At (start p)
+    → read_start n p (length l.quads) (length l.units) (length l.lines) (length l.frames) ≡ Ok (start p)
 unfolding read_start
 start_good n p l h f =
     rw (

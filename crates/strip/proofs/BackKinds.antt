@@ -5,13 +5,10 @@ use native.Mathlib.Omega.{arith}
 use mathlib.Core.List.{List}
 use lib.ListN.{length, take, drop}
 use lib.Seq.{take-append_seam}
-use Rattle.core_read.specs.Taken.{advanced, over}
-use Rattle.core_checks.specs.Checks.{reach_checked, parsed_of, unless_refused}
-use Rattle.core_checks.specs.declared.checks.Extent.{Extent}
+use Rattle.core_read.specs.Taken.{advanced, over, Place}
+use Rattle.core_checks.specs.Checks.{reach_checked, unless_refused, Extent}
 use Rattle.core_read.specs.declared.cursor.ByteOrder.{ByteOrder}
 use Rattle.core_read.specs.declared.cursor.Cursor.{Cursor}
-use Rattle.core_read.specs.declared.cursor.Place.TheVariants.{At}
-use Rattle.core_checks.specs.declared.checks.Parsed.TheVariants as Parseds
 use Rattle.core_read.proofs.Cursors.{pos_advanced, pos_moved, advanced_more, reach_level}
 use Rattle.core_read.proofs.Back.{Holds, split, Fit}
 use Rattle.pane_read.specs.Pane.{encode_pane}
@@ -55,6 +52,7 @@ use Rattle.strip_kinds.specs.declared.body.BodyRead.{BodyRead}
 use Rattle.strip.proofs.Below.{below_fit, below_at}
 use Rattle.strip.proofs.Fills.{units_count, lines_count}
 use Rattle.strip_write.proofs.Cleared.{OwnGood}
+use Rattle.std.specs.Prelude.{Ok}
 
 -- what the types and a write's checks say of a record with its lists and label
 pub record GoodWhole (w : Whole) : Type 0 where
@@ -114,17 +112,16 @@ body_reach k body w = body + body_length k body w
 
 -- an extent that such a body keeps to
 abbrev pub Kept : Extent → Kind → ℕ → Whole → Type 0
-Kept x k body w = (d : Cursor) → d.reach ≡ body_reach k body w → reach_checked (At d) x ≡ At d
+Kept x k body w = (d : Cursor) → d.reach ≡ body_reach k body w → reach_checked (Ok d) x ≡ Ok d
 
 -- such a body is read so, and its own part is equal to that of w
 pub record BodyBack (order : ByteOrder) (s : List ℕ) (c : Cursor) (body : ℕ) (x : Extent) (k : Kind) (w : Whole) : Type 0 where
-  pub read : ◌≡◌ {A = BodyRead} (body_read order k s (At c) body x) (record { answer = Parseds.Read (body_end k body w) (body_reach k body w); «record» = read_record k c body w })
-  pub own : (l : Lists) → SameOwn k (read_whole s (read_record k c body w) (body_lists order k s (At c) body x l)) w
+  pub read : ◌≡◌ {A = BodyRead} (body_read order k s (Ok c) body x) (record { answer = Ok (record { pos = body_end k body w; reach = body_reach k body w }); «record» = read_record k c body w })
+  pub own : (l : Lists) → SameOwn k (read_whole s (read_record k c body w) (body_lists order k s (Ok c) body x l)) w
 
 -- the answer of a run by its two figures
-parsed_at : (d : Cursor) (end reach : ℕ) → d.pos ≡ end → d.reach ≡ reach → parsed_of (At d) ≡ Parseds.Read end reach
-unfolding parsed_of
-parsed_at d end reach e f = rw (e, f)
+parsed_at : (d : Cursor) (end reach : ℕ) → d.pos ≡ end → d.reach ≡ reach → ◌≡◌ {A = Place} (Ok d) (Ok (record { pos = end; reach = reach }))
+parsed_at d end reach e f = rw (← e, ← f)
 
 -- a list over the front of another
 front : (n : ℕ) (l old : List ℕ) → n ≡ length l → take n (over l old) ≡ l
@@ -134,7 +131,7 @@ front n l old h = rw h (take-append_seam l (drop (length l) old))
 looked : (c : Cursor) (body : ℕ) → c.pos ≡ body → c.reach ≡ c.pos → (n : ℕ) → (advanced c n).reach ≡ body + n
 looked c body here level n = reach_level c level n ∙ omega (arith, here)
 
-straight : (c : Cursor) (body : ℕ) → c.pos ≡ body → c.reach ≡ c.pos → (n : ℕ) → parsed_of (At (advanced c n)) ≡ Parseds.Read (body + n) (body + n)
+straight : (c : Cursor) (body : ℕ) → c.pos ≡ body → c.reach ≡ c.pos → (n : ℕ) → ◌≡◌ {A = Place} (Ok (advanced c n)) (Ok (record { pos = body + n; reach = body + n }))
 straight c body here level n =
     parsed_at (advanced c n) (body + n) (body + n) (pos_advanced c n ∙ omega (arith, here)) (looked c body here level n)
 
@@ -189,10 +186,10 @@ module _ {s : List ℕ} (order : ByteOrder) (c : Cursor) (body : ℕ) (x : Exten
     pic_fit : Fit 4 w.lists.quads
     pic_fit = below_fit 4 w.lists.quads t.quads
 
-    pic_measured : ◌≡◌ {A = PictureMeasured} (picture.picture_measured order s (At c) body x) (record {
+    pic_measured : ◌≡◌ {A = PictureMeasured} (picture.picture_measured order s (Ok c) body x) (record {
       base = read_back w.pane.base;
-      own = picture_taken order s (At (advanced c 76));
-      then = At (advanced c (76 + picture_length w.pane.picture w.lists.quads));
+      own = picture_taken order s (Ok (advanced c 76));
+      then = Ok (advanced c (76 + picture_length w.pane.picture w.lists.quads));
     })
     unfolding picture.picture_measured picture.body_length OwnGood
     pic_measured =
@@ -206,7 +203,7 @@ module _ {s : List ℕ} (order : ByteOrder) (c : Cursor) (body : ℕ) (x : Exten
           kept (advanced c (76 + picture_length a q)) (looked c body here level (76 + picture_length a q)),
         )
 
-    pic_quads : (old : List ℕ) → picture.quads_read order s (At c) body x old ≡ over w.lists.quads old
+    pic_quads : (old : List ℕ) → picture.quads_read order s (Ok c) body x old ≡ over w.lists.quads old
     unfolding picture.quads_read picture.quads_filled OwnGood picture_quads unless_refused
     pic_quads old =
         rw (
@@ -254,10 +251,10 @@ module _ {s : List ℕ} (order : ByteOrder) (c : Cursor) (body : ℕ) (x : Exten
     wnd_reach : wnd_end.reach ≡ body + (76 + window_length body (length w.lists.quads) (length w.lists.frames))
     wnd_reach = window-laws.reach_window (advanced c 76) body (length w.lists.quads) (length w.lists.frames) (base_level c level) wnd_here whole ∙ omega arith
 
-    wnd_measured : ◌≡◌ {A = WindowMeasured} (window.window_measured order s (At c) body x) (record {
+    wnd_measured : ◌≡◌ {A = WindowMeasured} (window.window_measured order s (Ok c) body x) (record {
       base = read_back w.pane.base;
-      own = window_taken order s (At (advanced c 76)) body;
-      then = At wnd_end;
+      own = window_taken order s (Ok (advanced c 76)) body;
+      then = Ok wnd_end;
     })
     unfolding window.window_measured window.body_length OwnGood
     wnd_measured =
@@ -268,7 +265,7 @@ module _ {s : List ℕ} (order : ByteOrder) (c : Cursor) (body : ℕ) (x : Exten
           kept wnd_end wnd_reach,
         )
 
-    wnd_quads : (old : List ℕ) → window.read_quads order s (At c) body x old ≡ over w.lists.quads old
+    wnd_quads : (old : List ℕ) → window.read_quads order s (Ok c) body x old ≡ over w.lists.quads old
     unfolding window.read_quads window.quads_filled OwnGood unless_refused
     wnd_quads old =
         rw (
@@ -276,7 +273,7 @@ module _ {s : List ℕ} (order : ByteOrder) (c : Cursor) (body : ℕ) (x : Exten
           window-laws.quads_back (advanced c 76) order body w.pane.window w.lists.quads w.lists.frames t.pane.window o wnd_quads_fit wnd_frames_fit low wnd_here wnd_base.1,
         )
 
-    wnd_frames : (old : List ℕ) → window.read_frames order s (At c) body x old ≡ over w.lists.frames old
+    wnd_frames : (old : List ℕ) → window.read_frames order s (Ok c) body x old ≡ over w.lists.frames old
     unfolding window.read_frames window.frames_filled OwnGood unless_refused
     wnd_frames old =
         rw (
@@ -324,7 +321,7 @@ module _ {s : List ℕ} (order : ByteOrder) (c : Cursor) (body : ℕ) (x : Exten
     abbrev Read : TextBoxTaken
     Read = text-box-laws.read_back body (advanced c 76) w.pane.text_box w.lists.units w.lists.lines w.label
 
-    txt_own : text_box_taken order s (At (advanced c 76)) body ≡ Read
+    txt_own : text_box_taken order s (Ok (advanced c 76)) body ≡ Read
     unfolding OwnGood
     txt_own =
         text-box-laws.text_box_back s (advanced c 76) order body txt_here low w.pane.text_box w.lists.units w.lists.lines w.label
@@ -341,17 +338,17 @@ module _ {s : List ℕ} (order : ByteOrder) (c : Cursor) (body : ℕ) (x : Exten
     abbrev txt_after : Cursor
     txt_after = text-box-laws.after_box body (advanced c 76) w.pane.text_box w.lists.units w.lists.lines w.label
 
-    txt_then : Read.then ≡ At txt_after
+    txt_then : Read.then ≡ Ok txt_after
     txt_then = text-box-laws.then_back body (advanced c 76) w.pane.text_box w.lists.units w.lists.lines w.label
 
     txt_reach : txt_after.reach ≡ body_reach Txt1 body w
     txt_reach =
         text-box-laws.reach_box body (advanced c 76) w.pane.text_box w.lists.units w.lists.lines w.label low txt_here (base_level c level) ∙ omega arith
 
-    txt_answer : parsed_of (At txt_after) ≡ Parseds.Read (body_end Txt1 body w) (body_reach Txt1 body w)
+    txt_answer : ◌≡◌ {A = Place} (Ok txt_after) (Ok (record { pos = body_end Txt1 body w; reach = body_reach Txt1 body w }))
     txt_answer = parsed_at txt_after _ _ (text-box-laws.pos_box body (advanced c 76) w.pane.text_box w.lists.units w.lists.lines w.label txt_here) txt_reach
 
-    txt_measured : ◌≡◌ {A = TextBoxMeasured} (text-box.text_box_measured order s (At c) body x) (record { base = read_back w.pane.base; own = Read; then = At txt_after })
+    txt_measured : ◌≡◌ {A = TextBoxMeasured} (text-box.text_box_measured order s (Ok c) body x) (record { base = read_back w.pane.base; own = Read; then = Ok txt_after })
     unfolding text-box.text_box_measured OwnGood
     txt_measured =
         rw (
@@ -364,11 +361,11 @@ module _ {s : List ℕ} (order : ByteOrder) (c : Cursor) (body : ℕ) (x : Exten
           kept txt_after txt_reach,
         )
 
-    txt_units : (old : List ℕ) → text-box.units_after order s (At c) body x old ≡ over (text_box_units order s Read) old
+    txt_units : (old : List ℕ) → text-box.units_after order s (Ok c) body x old ≡ over (text_box_units order s Read) old
     unfolding text-box.units_after text-box.units_filled unless_refused
     txt_units old = rw txt_measured
 
-    txt_lines : (old : List ℕ) → text-box.lines_after order s (At c) body x old ≡ over (text_box_lines order s Read) old
+    txt_lines : (old : List ℕ) → text-box.lines_after order s (Ok c) body x old ≡ over (text_box_lines order s Read) old
     unfolding text-box.lines_after text-box.lines_filled unless_refused
     txt_lines old = rw txt_measured
 

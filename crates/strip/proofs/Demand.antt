@@ -9,13 +9,9 @@ use mathlib.Core.List.{List, [], ◌∷◌, ◌++◌, append_assoc, append-nil}
 use lib.ListN.{length, take, drop, replicate, length-append, length-take, length-replicate}
 use lib.Seq.{length-take-le, take_at}
 use Rattle.core_read.specs.Bytes.{splice}
-use Rattle.core_checks.specs.Checks.{unless_refused, written_of}
+use Rattle.core_checks.specs.Checks.{unless_refused, written_of, Written}
 use Rattle.core_read.specs.declared.error.Refusal.{Refusal}
 use Rattle.core_read.specs.declared.cursor.ByteOrder.{ByteOrder}
-use Rattle.core_read.specs.declared.cursor.Place.{Place}
-use Rattle.core_read.specs.declared.cursor.Place.TheVariants as Places
-use Rattle.core_checks.specs.declared.checks.Written.{Written}
-use Rattle.core_checks.specs.declared.checks.Written.TheVariants as Writtens
 use Rattle.core_write.proofs.Puts.{splice_cut, length_splice}
 use Rattle.core_read.proofs.Back.{Holds}
 use Rattle.strip_records.specs.Whole.{Lists, Full, Whole}
@@ -25,7 +21,6 @@ use Rattle.strip_read.specs.Read.{ended_with, read_section, lists_after}
 use Rattle.strip_write.specs.Write.{size_of, section, section_end, write_checked, write_answer, write_output}
 use Rattle.strip.specs.Strip.{All, Run, step, run_from, run, strip, SameAll, Gives}
 use Rattle.strip_read.specs.declared.read.SectionRead.{SectionRead}
-use Rattle.strip_header.specs.declared.Section.{Section}
 use Rattle.strip_header.specs.declared.Section.TheVariants as Sections
 use Rattle.strip.specs.Inside.{Inside}
 use Rattle.strip_write.proofs.Cleared.{Accepts, write_cleared}
@@ -33,6 +28,9 @@ use Rattle.strip.proofs.Same.{section_same, same_both}
 use Rattle.strip.proofs.BackKinds.{GoodWhole, body_end, body_reach, read_record}
 use Rattle.pane.proofs.Same as pane
 use Rattle.strip.proofs.Back.{SectionBack, read_as, reach_inside, length_section, size_whole, size_shift, section_shift, section_back, section_end_lem}
+use Rattle.core_read.specs.Taken.{Place}
+use Rattle.std.specs.Prelude.{Err, Ok}
+use Rattle.strip_header.specs.Header.{SectionAnswer}
 
 -- ---- what an accepted write and a refused one say
 
@@ -42,40 +40,40 @@ pub record Accepted (order : ByteOrder) (w : Whole) (o : List ℕ) (p e : ℕ) :
   pub laid : write_output order w o p ≡ splice o p (section order p w)
 
 IsRefused : Written → Type 0
-IsRefused (Writtens.End e) = ⊥
-IsRefused (Writtens.Refused why) = Unit {0}
+IsRefused (Ok e) = ⊥
+IsRefused (Err why) = Unit {0}
 
-never : (why : Refusal) (e : ℕ) → Writtens.Refused why ≡ Writtens.End e → ⊥
+never : (why : Refusal) (e : ℕ) → ◌≡◌ {A = Written} (Err why) (Ok e) → ⊥
 unfolding IsRefused
 never why e h = subst IsRefused h tt
 
 accepted_by : (order : ByteOrder) (w : Whole) (o : List ℕ) (p e : ℕ) (q : Place) → write_checked w (length o) p ≡ q
-    → written_of q (section_end p w) ≡ Writtens.End e → Accepted order w o p e
+    → written_of q (section_end p w) ≡ Ok e → Accepted order w o p e
 unfolding write_output written_of unless_refused
-accepted_by order w o p e (Places.At c) h k = record { accepts = write_cleared w (length o) p c h; ends = cc; laid = rw h }
-accepted_by order w o p e (Places.Refused why) h k = absurd (never why e k)
+accepted_by order w o p e (Ok c) h k = record { accepts = write_cleared w (length o) p c h; ends = cc; laid = rw h }
+accepted_by order w o p e (Err why) h k = absurd (never why e k)
 
-accepted : (order : ByteOrder) (w : Whole) (o : List ℕ) (p e : ℕ) → write_answer w (length o) p ≡ Writtens.End e → Accepted order w o p e
+accepted : (order : ByteOrder) (w : Whole) (o : List ℕ) (p e : ℕ) → write_answer w (length o) p ≡ Ok e → Accepted order w o p e
 unfolding write_answer
 accepted order w o p e h = accepted_by order w o p e (write_checked w (length o) p) refl h
 
 refused_by : (order : ByteOrder) (w : Whole) (o : List ℕ) (p : ℕ) (why : Refusal) (q : Place) → write_checked w (length o) p ≡ q
-    → written_of q (section_end p w) ≡ Writtens.Refused why → write_output order w o p ≡ o
+    → written_of q (section_end p w) ≡ Err why → write_output order w o p ≡ o
 unfolding write_output written_of unless_refused
-refused_by order w o p why (Places.At c) h k = cc
-refused_by order w o p why (Places.Refused y) h k = rw h
+refused_by order w o p why (Ok c) h k = cc
+refused_by order w o p why (Err y) h k = rw h
 
-refused : (order : ByteOrder) (w : Whole) (o : List ℕ) (p : ℕ) (why : Refusal) → write_answer w (length o) p ≡ Writtens.Refused why → write_output order w o p ≡ o
+refused : (order : ByteOrder) (w : Whole) (o : List ℕ) (p : ℕ) (why : Refusal) → write_answer w (length o) p ≡ Err why → write_output order w o p ≡ o
 unfolding write_answer
 refused order w o p why h = refused_by order w o p why (write_checked w (length o) p) refl h
 
-IsEnd : Section → Type 0
-IsEnd Sections.End = Unit {0}
-IsEnd (Sections.Passed next) = ⊥
-IsEnd (Sections.Pane end next reach) = ⊥
-IsEnd (Sections.Refused why) = ⊥
+IsEnd : SectionAnswer → Type 0
+IsEnd (Ok Sections.End) = Unit {0}
+IsEnd (Ok (Sections.Passed next)) = ⊥
+IsEnd (Ok (Sections.Pane end next reach)) = ⊥
+IsEnd (Err why) = ⊥
 
-end_pane : (x e r : ℕ) → Sections.End ≡ Sections.Pane x e r → ⊥
+end_pane : (x e r : ℕ) → ◌≡◌ {A = SectionAnswer} (Ok Sections.End) (Ok (Sections.Pane x e r)) → ⊥
 unfolding IsEnd
 end_pane x e r h = subst IsEnd h tt
 
@@ -112,8 +110,8 @@ module _ (order : ByteOrder) where
       (o : List ℕ) (p : ℕ) → p ≤ length o → (a : Written) → write_answer w (length o) p ≡ a
       → Grown o p (step a w (λ q. run_from order ws (write_output order w o p) q) p)
   unfolding step sections ends_from All
-  grown_step w t ws ih o p h (Writtens.Refused why) e = rw (refused order w o p why e) (ih o p h)
-  grown_step w t ws ih o p h (Writtens.End e) k =
+  grown_step w t ws ih o p h (Err why) e = rw (refused order w o p why e) (ih o p h)
+  grown_step w t ws ih o p h (Ok e) k =
       let y = accepted order w o p e k in
       let a = y.accepts in
       let g : GoodWhole w = record { typed = t; good = a.good; own = a.own } in
@@ -145,7 +143,7 @@ module _ (order : ByteOrder) where
   record Next (b : List ℕ) (w : Whole) (ws : List Whole) : Type 0 where
     back : (l : Lists) → Full l → SectionBack order (b ++ (section order 0 w ++ sections ws)) (length b) l w
     answer : (l : Lists) → Full l → (read_section order (b ++ (section order 0 w ++ sections ws)) (length b) l).answer
-        ≡ Sections.Pane (body_end w.pane.kind (length b + 8) w) (length b + size_of 0 w) (body_reach w.pane.kind (length b + 8) w)
+        ≡ Ok (Sections.Pane (body_end w.pane.kind (length b + 8) w) (length b + size_of 0 w) (body_reach w.pane.kind (length b + 8) w))
     inside : body_reach w.pane.kind (length b + 8) w ≤ length b + size_of 0 w
     long : length (b ++ section order 0 w) ≡ length b + size_of 0 w
     whole : length (b ++ section order 0 w) % 4 ≡ 0
@@ -162,7 +160,7 @@ module _ (order : ByteOrder) where
       record {
         back = section_back order (length b) w g k h x;
         answer = λ r full. ap (λ (y : SectionRead). y.answer) (section_back order (length b) w g k h x r full).read
-            ∙ ap (λ (y : ℕ). Sections.Pane (body_end w.pane.kind (length b + 8) w) (length b + y) (body_reach w.pane.kind (length b + 8) w)) q;
+            ∙ ap (λ (y : ℕ). Ok (Sections.Pane (body_end w.pane.kind (length b + 8) w) (length b + y) (body_reach w.pane.kind (length b + 8) w))) q;
         inside = omega (arith, reach_inside (length b) w, q);
         long = n;
         whole = omega (arith, n, z, h);

@@ -6,8 +6,8 @@ use native.Mathlib.Omega.{arith}
 use lib.ListN.{length, replicate, length-append, length-replicate}
 use Rattle.core_read.specs.Bytes.{le, spelled, bytes_of, part, number_at, padding}
 use Rattle.core_read.specs.Refusals.{accepted, refused}
-use Rattle.core_read.specs.Taken.{start, advanced, stop_if, number_taken, string_taken, string24_taken, string8_taken, up_to_nul}
-use Rattle.core_checks.specs.Checks.{length_checked, body_checked, section_checked, body_start, section_start, list_checked, reach_checked, parsed_of, unless_refused, parsed_by_number}
+use Rattle.core_read.specs.Taken.{start, advanced, stop_if, number_taken, string_taken, fixed_string_taken, up_to_nul}
+use Rattle.core_checks.specs.Checks.{length_checked, body_checked, section_checked, body_start, section_start, list_checked, reach_checked, unless_refused, parsed_by_number}
 use Rattle.core_read.specs.declared.cursor.ByteOrder.{ByteOrder}
 use Rattle.core_read.specs.declared.cursor.ByteOrder.TheVariants.{Little, Big}
 use Rattle.core_read.proofs.Numbers.{length_bytes}
@@ -42,7 +42,7 @@ pub record Short : Type 0 where
   pub thirty_seven : parsed_by_number (pane_parsed Little (zeros 37) 8).answer ≡ refused 4 37 4
 
 pub short : Short
-unfolding start advanced pane_parsed pane_read pane_given pane_measured reach_checked parsed_of unless_refused body_start length_checked body_checked stop_if texts_checked pane_taken string24_taken string8_taken vector2_taken vector3_taken number_taken string_taken up_to_nul part number_at spelled
+unfolding start advanced pane_parsed pane_read pane_given pane_measured reach_checked unless_refused body_start length_checked body_checked stop_if texts_checked pane_taken fixed_string_taken vector2_taken vector3_taken number_taken string_taken up_to_nul part number_at spelled
 short = record { eight = refl; twelve = refl; thirteen = refl; thirty_seven = refl }
 
 -- a text box at 8, one unit, a label of two bytes, one line: offsets 168, 172, 176; body 177, size 188
@@ -95,7 +95,7 @@ pub record Lines : Type 0 where
   pub whole : section_by_number (read_section Little (letter_bytes Ali1 ++ (96 ∷ 0 ∷ 0 ∷ 0 ∷ zeros 88)) 0 full).answer ≡ accepted (96 ∷ 96 ∷ 96 ∷ [])
 
 pub three_lines : Lines
-unfolding start advanced letter_bytes kind_of read_section read_start section_start length_checked section_checked list_checked stop_if or_refused read_at header_taken size_bad by_kind read_body body_read alignment_read alignment_given alignment_measured reach_checked parsed_of unless_refused finished refused_with ended_with pane_taken string24_taken string8_taken vector2_taken vector3_taken alignment_taken number_taken string_taken up_to_nul part number_at spelled texts_checked name_ill well_formed walk
+unfolding start advanced letter_bytes kind_of read_section read_start section_start length_checked section_checked list_checked stop_if or_refused read_at header_taken size_bad by_kind read_body body_read alignment_read alignment_given alignment_measured reach_checked unless_refused finished refused_with ended_with pane_taken fixed_string_taken vector2_taken vector3_taken alignment_taken number_taken string_taken up_to_nul part number_at spelled texts_checked name_ill well_formed walk
 three_lines = record { empty = refl; bare = refl; whole = refl }
 
 abbrev float : List ℕ
@@ -110,5 +110,5 @@ pub record Turned : Type 0 where
   pub back : bytes_of Big 4 (number_at Big 4 float 0) ≡ float
 
 pub turned : Turned
-unfolding start advanced letter_bytes kind_of read_section read_start section_start length_checked section_checked list_checked stop_if or_refused read_at header_taken size_bad by_kind read_body body_read alignment_read alignment_given alignment_measured reach_checked parsed_of unless_refused finished refused_with ended_with pane_taken string24_taken string8_taken vector2_taken vector3_taken alignment_taken number_taken string_taken up_to_nul part number_at spelled bytes_of le texts_checked name_ill well_formed walk
+unfolding start advanced letter_bytes kind_of read_section read_start section_start length_checked section_checked list_checked stop_if or_refused read_at header_taken size_bad by_kind read_body body_read alignment_read alignment_given alignment_measured reach_checked unless_refused finished refused_with ended_with pane_taken fixed_string_taken vector2_taken vector3_taken alignment_taken number_taken string_taken up_to_nul part number_at spelled bytes_of le texts_checked name_ill well_formed walk
 turned = record { bare = refl; beyond = refl; whole = refl; number = refl; back = refl }

@@ -6,17 +6,11 @@ use mathlib.Core.Bool.{Bool, true, false, cond}
 use mathlib.Core.List.{List, [], ◌∷◌}
 use lib.ListN.{length}
 use lib.Dec.{eqb}
-use Rattle.core_read.specs.Taken.{sought, number_taken, over}
+use Rattle.core_read.specs.Taken.{sought, number_taken, over, Place}
 use Rattle.core_read.specs.Lists.{numbers_taken, numbers_at}
 use Rattle.core_read.specs.declared.cursor.ByteOrder.{ByteOrder}
-use Rattle.core_read.specs.declared.cursor.Place.{Place}
-use Rattle.core_read.specs.declared.cursor.Place.TheVariants.{At, Refused}
 use Rattle.core_read.proofs.Lists.{length_numbers}
-use Rattle.core_checks.specs.Checks.{parsed_of, unless_refused}
-use Rattle.core_checks.specs.declared.checks.Extent.{Extent}
-use Rattle.core_checks.specs.declared.checks.Extent.TheVariants.{Buffer, Section}
-use Rattle.core_checks.specs.declared.checks.Parsed.{Parsed}
-use Rattle.core_checks.specs.declared.checks.Parsed.TheVariants as Parseds
+use Rattle.core_checks.specs.Checks.{unless_refused, Extent}
 use Rattle.pane_read.specs.Pane.{pane_taken, blank_pane}
 use Rattle.pane_read.specs.declared.Pane.{Pane}
 use Rattle.pane_checks.specs.Checks.{texts_checked}
@@ -24,11 +18,9 @@ use Rattle.pane.specs.Body.{pane_read}
 use Rattle.picture_fields.specs.Picture.{picture_taken, quads_of, blank_picture}
 use Rattle.picture_fields.specs.declared.PictureTaken.{PictureTaken}
 use Rattle.picture.specs.Body.{picture_start, picture_measured, picture_given, quads_filled, picture_read, quads_read, picture_parsed, quads_parsed}
-use Rattle.text_box_parts.specs.Parts.{units_of, lines_of}
+use Rattle.text_box_parts.specs.Parts.{units_of, lines_of, LineTable}
 use Rattle.text_box_parts.specs.declared.Text.{Text}
 use Rattle.text_box_parts.specs.declared.Text.TheVariants as text
-use Rattle.text_box_parts.specs.declared.LineTable.{LineTable}
-use Rattle.text_box_parts.specs.declared.LineTable.TheVariants as line
 use Rattle.text_box_parts.proofs.Pairs.{length_pairs}
 use Rattle.text_box_read.specs.TextBox.{blank_text_box, text_box_units, text_box_lines}
 use Rattle.text_box_read.specs.declared.TextBoxTaken.{TextBoxTaken}
@@ -39,17 +31,16 @@ use Rattle.window.specs.Body as window
 use Rattle.window.specs.Body.{window_measured, window_given, frames_filled, window_read, read_quads, read_frames, window_parsed, parsed_quads, parsed_frames}
 use Rattle.alignment.specs.Body.{alignment_read}
 use Rattle.strip_records.specs.Filled.{text_numbers, table_numbers, Numbers, numbers, numbers_of}
-use Rattle.strip_records.specs.Kinds.{kind_of}
+use Rattle.strip_records.specs.Kinds.{kind_of, KindFound}
 use Rattle.strip_records.specs.Whole.{Lists, lists, no_lists, blank_record, pan1, pic1, txt1, wnd1, ali1}
 use Rattle.strip_records.specs.declared.kind.Kind.{Kind}
 use Rattle.strip_records.specs.declared.kind.Kind.TheVariants.{Pan1, Pic1, Txt1, Wnd1, Ali1}
-use Rattle.strip_records.specs.declared.kind.KindFound.{KindFound}
-use Rattle.strip_records.specs.declared.kind.KindFound.TheVariants.{Is, Other}
 use Rattle.strip_records.specs.declared.record.Record.{Record}
 use Rattle.strip_kinds.specs.Body.{body_read, body_lists, body_parsed, lists_parsed}
 use Rattle.strip_header.specs.Header.{read_start, header_taken}
 use Rattle.strip_read.specs.Read.{refused_with, ended_with, passed_with, finished, read_body, by_kind, lists_by_kind, or_refused, read_at, lists_at, read_section, lists_after}
 use Rattle.strip_read.specs.declared.read.SectionRead.{SectionRead}
+use Rattle.std.specs.Prelude.{Err, None, Ok, Some}
 
 -- the lists after are those before, l, with so many numbers laid over the front of each
 pub record Fills (n : Numbers) (l after : Lists) : Type 0 where
@@ -79,8 +70,8 @@ units_count order s text.Absent long at = refl
 units_count order s text.Present long at = sym (length_numbers order 2 (long / 2) s at)
 
 pub lines_count : (order : ByteOrder) (s : List ℕ) (x : LineTable) (at : ℕ) → table_numbers x ≡ length (lines_of order s x at)
-lines_count order s line.Absent at = refl
-lines_count order s (line.Present count) at =
+lines_count order s None at = refl
+lines_count order s (Some count) at =
     let a = length_numbers order 4 count s (at + 1) in
     let b = length_numbers order 4 count s (at + 1 + 4 * count) in
     sym (length_pairs _ _ (a ∙ sym b) ∙ ap (λ (n : ℕ). 2 * n) a)
@@ -92,18 +83,18 @@ module _ (order : ByteOrder) (s : List ℕ) (l : Lists) where
       → Fills (numbers_of (pic1 (unless_refused q blank_pane b) (unless_refused q blank_picture x.picture))) l
       (lists (unless_refused q l.quads (over (quads_of order s x) l.quads)) l.units l.lines l.frames)
   unfolding unless_refused quads_of blank_picture
-  pic_read (At c) b x = record {
+  pic_read (Ok c) b x = record {
     front = lists (quads_of order s x) [] [] [];
     counts = ap (λ (n : ℕ). numbers n 0 0 0) (length_taken order 4 (8 * x.picture.quad_count) s x.quads);
     laid = refl;
   }
-  pic_read (Refused why) b x = fills_none l
+  pic_read (Err why) b x = fills_none l
 
   txt_read : (q : Place) (b : Pane) (x : TextBoxTaken)
       → Fills (numbers_of (txt1 (unless_refused q blank_pane b) (unless_refused q blank_text_box x.text_box))) l
       (lists l.quads (unless_refused q l.units (over (text_box_units order s x) l.units)) (unless_refused q l.lines (over (text_box_lines order s x) l.lines)) l.frames)
   unfolding unless_refused blank_text_box
-  txt_read (At c) b x =
+  txt_read (Ok c) b x =
       let u = units_count order s x.text_box.text x.text_box.text_length x.text_place in
       let t = lines_count order s x.text_box.line_table x.lines_place in
       record {
@@ -111,13 +102,13 @@ module _ (order : ByteOrder) (s : List ℕ) (l : Lists) where
         counts = ap (λ (n : ℕ). numbers 0 n (length (text_box_lines order s x)) 0) (sym u) ∙ ap (λ (n : ℕ). numbers 0 (text_numbers x.text_box.text x.text_box.text_length) n 0) (sym t);
         laid = refl;
       }
-  txt_read (Refused why) b x = fills_none l
+  txt_read (Err why) b x = fills_none l
 
   wnd_read : (q : Place) (b : Pane) (x : WindowTaken) (body : ℕ)
       → Fills (numbers_of (wnd1 (unless_refused q blank_pane b) (unless_refused q blank_window x.window))) l
       (lists (unless_refused q l.quads (over (window_quads order s x) l.quads)) l.units l.lines (unless_refused q l.frames (over (window_frames order s x body) l.frames)))
   unfolding unless_refused window_quads window_frames blank_window
-  wnd_read (At c) b x body =
+  wnd_read (Ok c) b x body =
       let table = (numbers_taken order 4 x.window.frame_count s x.table).value in
       let quads = length_taken order 4 (8 * x.window.content.quad_count) s x.quads in
       let frames = length_frames order s (body - 8) table x.frames ∙ ap (λ (n : ℕ). 2 * n) (length_taken order 4 x.window.frame_count s x.table) in
@@ -126,7 +117,7 @@ module _ (order : ByteOrder) (s : List ℕ) (l : Lists) where
         counts = ap (λ (n : ℕ). numbers n 0 0 (length (window_frames order s x body))) quads ∙ ap (λ (n : ℕ). numbers (8 * x.window.content.quad_count) 0 0 n) frames;
         laid = refl;
       }
-  wnd_read (Refused why) b x body = fills_none l
+  wnd_read (Err why) b x body = fills_none l
 
   -- the body of a kind, read from a place of the run
   run_fills : (k : Kind) (p : Place) (body : ℕ) (x : Extent) → Fills (numbers_of (body_read order k s p body x).«record») l (body_lists order k s p body x l)
@@ -141,65 +132,65 @@ module _ (order : ByteOrder) (s : List ℕ) (l : Lists) where
   pub parsed_fills : (k : Kind) (body : ℕ) → Fills (numbers_of (body_parsed order k s body l).«record») l (lists_parsed order k s body l)
   unfolding body_parsed lists_parsed body_read body_lists picture_parsed quads_parsed window_parsed parsed_quads parsed_frames
   parsed_fills Pan1 body = fills_none l
-  parsed_fills Pic1 body = run_fills Pic1 (picture_start (length s) body (length l.quads)) body Buffer
-  parsed_fills Txt1 body = run_fills Txt1 (text_box_start (length s) (length l.units) (length l.lines) body) body Buffer
-  parsed_fills Wnd1 body = run_fills Wnd1 (window.read_start (length s) body l.quads l.frames) body Buffer
+  parsed_fills Pic1 body = run_fills Pic1 (picture_start (length s) body (length l.quads)) body None
+  parsed_fills Txt1 body = run_fills Txt1 (text_box_start (length s) (length l.units) (length l.lines) body) body None
+  parsed_fills Wnd1 body = run_fills Wnd1 (window.read_start (length s) body l.quads l.frames) body None
   parsed_fills Ali1 body = fills_none l
 
 -- ---- the same with what a section read hands out of the record that was read
 
 abbrev handed : Place → ℕ → Record → Record
-handed q next r = (finished (parsed_of q) next r).«record»
+handed q next r = (finished (q) next r).«record»
 
-plain : (a : Parsed) (next : ℕ) (r : Record) (l : Lists) → numbers_of r ≡ numbers 0 0 0 0 → Fills (numbers_of (finished a next r).«record») l l
+plain : (a : Place) (next : ℕ) (r : Record) (l : Lists) → numbers_of r ≡ numbers 0 0 0 0 → Fills (numbers_of (finished a next r).«record») l l
 unfolding finished refused_with blank_record
-plain (Parseds.Read end reach) next r l e = rw e (fills_none l)
-plain (Parseds.Refused why) next r l e = fills_none l
+plain (Ok c) next r l e = rw e (fills_none l)
+plain (Err why) next r l e = fills_none l
 
 module _ (order : ByteOrder) (s : List ℕ) (next : ℕ) (l : Lists) where
   pic_by : (q : Place) (b : Pane) (x : PictureTaken)
       → Fills (numbers_of (handed q next (pic1 (unless_refused q blank_pane b) (unless_refused q blank_picture x.picture)))) l
       (lists (unless_refused q l.quads (over (quads_of order s x) l.quads)) l.units l.lines l.frames)
-  unfolding unless_refused parsed_of finished refused_with blank_record
-  pic_by (At c) b x = pic_read order s l (At c) b x
-  pic_by (Refused why) b x = fills_none l
+  unfolding unless_refused finished refused_with blank_record
+  pic_by (Ok c) b x = pic_read order s l (Ok c) b x
+  pic_by (Err why) b x = fills_none l
 
   txt_by : (q : Place) (b : Pane) (x : TextBoxTaken)
       → Fills (numbers_of (handed q next (txt1 (unless_refused q blank_pane b) (unless_refused q blank_text_box x.text_box)))) l
       (lists l.quads (unless_refused q l.units (over (text_box_units order s x) l.units)) (unless_refused q l.lines (over (text_box_lines order s x) l.lines)) l.frames)
-  unfolding unless_refused parsed_of finished refused_with blank_record
-  txt_by (At c) b x = txt_read order s l (At c) b x
-  txt_by (Refused why) b x = fills_none l
+  unfolding unless_refused finished refused_with blank_record
+  txt_by (Ok c) b x = txt_read order s l (Ok c) b x
+  txt_by (Err why) b x = fills_none l
 
   wnd_by : (q : Place) (b : Pane) (x : WindowTaken) (body : ℕ)
       → Fills (numbers_of (handed q next (wnd1 (unless_refused q blank_pane b) (unless_refused q blank_window x.window)))) l
       (lists (unless_refused q l.quads (over (window_quads order s x) l.quads)) l.units l.lines (unless_refused q l.frames (over (window_frames order s x body) l.frames)))
-  unfolding unless_refused parsed_of finished refused_with blank_record
-  wnd_by (At c) b x body = wnd_read order s l (At c) b x body
-  wnd_by (Refused why) b x body = fills_none l
+  unfolding unless_refused finished refused_with blank_record
+  wnd_by (Ok c) b x body = wnd_read order s l (Ok c) b x body
+  wnd_by (Err why) b x body = fills_none l
 
   -- the body of a kind
-  body_fills : (k : Kind) (p : Place) (body : ℕ) → Fills (numbers_of (read_body order k s p body next).«record») l (body_lists order k s p body (Section next) l)
+  body_fills : (k : Kind) (p : Place) (body : ℕ) → Fills (numbers_of (read_body order k s p body next).«record») l (body_lists order k s p body (Some next) l)
   unfolding read_body body_read body_lists picture_read picture_given quads_read quads_filled text_box_read text_box_given units_after units_filled lines_after lines_filled window_read window_given read_quads window.quads_filled read_frames frames_filled
-  body_fills Pan1 p body = let r = pane_read order s p body (Section next) in plain r.answer next (pan1 r.pane) l refl
-  body_fills Pic1 p body = let m = picture_measured order s p body (Section next) in pic_by m.then m.base m.own
-  body_fills Txt1 p body = let m = text_box_measured order s p body (Section next) in txt_by m.then m.base m.own
-  body_fills Wnd1 p body = let m = window_measured order s p body (Section next) in wnd_by m.then m.base m.own body
-  body_fills Ali1 p body = let r = alignment_read order s p body (Section next) in plain r.answer next (ali1 r.base r.alignment) l refl
+  body_fills Pan1 p body = let r = pane_read order s p body (Some next) in plain r.answer next (pan1 r.pane) l refl
+  body_fills Pic1 p body = let m = picture_measured order s p body (Some next) in pic_by m.then m.base m.own
+  body_fills Txt1 p body = let m = text_box_measured order s p body (Some next) in txt_by m.then m.base m.own
+  body_fills Wnd1 p body = let m = window_measured order s p body (Some next) in wnd_by m.then m.base m.own body
+  body_fills Ali1 p body = let r = alignment_read order s p body (Some next) in plain r.answer next (ali1 r.base r.alignment) l refl
 
 -- ---- a section
 
 -- a step that a check may stop
 unless_fills : (q : Place) (r : SectionRead) (l after : Lists) → Fills (numbers_of r.«record») l after → Fills (numbers_of (or_refused q r).«record») l (unless_refused q l after)
 unfolding or_refused unless_refused refused_with blank_record
-unless_fills (At c) r l after h = h
-unless_fills (Refused why) r l after h = fills_none l
+unless_fills (Ok c) r l after h = h
+unless_fills (Err why) r l after h = fills_none l
 
 module _ (order : ByteOrder) (s : List ℕ) (l : Lists) where
   kind_fills : (k : KindFound) (p : Place) (body next : ℕ) → Fills (numbers_of (by_kind order k s p body next).«record») l (lists_by_kind order k s p body next l)
   unfolding by_kind lists_by_kind passed_with blank_record
-  kind_fills (Is k) p body next = body_fills order s next l k p body
-  kind_fills Other p body next = fills_none l
+  kind_fills (Some k) p body next = body_fills order s next l k p body
+  kind_fills None p body next = fills_none l
 
   at_fills : (p : ℕ) → Fills (numbers_of (read_at order s p).«record») l (lists_at order s p l)
   unfolding read_at lists_at

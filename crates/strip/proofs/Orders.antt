@@ -6,15 +6,13 @@ use mathlib.Core.List.{List, [], ◌∷◌}
 use lib.ListN.{length}
 use Rattle.core_read.specs.Bytes.{splice}
 use Rattle.core_read.specs.declared.cursor.ByteOrder.{ByteOrder}
-use Rattle.core_read.specs.declared.cursor.Place.{Place}
-use Rattle.core_read.specs.declared.cursor.Place.TheVariants as Places
-use Rattle.core_checks.specs.Checks.{unless_refused}
-use Rattle.core_checks.specs.declared.checks.Written.{Written}
-use Rattle.core_checks.specs.declared.checks.Written.TheVariants as Writtens
+use Rattle.core_checks.specs.Checks.{unless_refused, Written}
 use Rattle.core_write.proofs.Puts.{length_splice}
 use Rattle.strip_records.specs.Whole.{Whole}
 use Rattle.strip_write.specs.Write.{section, write_checked, write_answer, write_output}
 use Rattle.strip.specs.Strip.{Run, step, run_from, run, next_place, answers_from, answers}
+use Rattle.core_read.specs.Taken.{Place}
+use Rattle.std.specs.Prelude.{Err, Ok}
 
 -- what two lists of writes have in common: what was kept, the ends, and the place of the next write
 pub record Alike (t u : Run) : Type 0 where
@@ -24,8 +22,8 @@ pub record Alike (t u : Run) : Type 0 where
 
 length_unless : (q : Place) (o xs : List ℕ) (p : ℕ) → length (unless_refused q o (splice o p xs)) ≡ length o
 unfolding unless_refused
-length_unless (Places.At c) o xs p = length_splice o p xs
-length_unless (Places.Refused why) o xs p = refl
+length_unless (Ok c) o xs p = length_splice o p xs
+length_unless (Err why) o xs p = refl
 
 length_output : (order : ByteOrder) (w : Whole) (o : List ℕ) (p : ℕ) → length (write_output order w o p) ≡ length o
 unfolding write_output
@@ -45,8 +43,8 @@ module _ (order other : ByteOrder) where
       → (o u : List ℕ) (p : ℕ) → length o ≡ length u → (a : Written)
       → Alike (step a w (λ q. run_from order ws (write_output order w o p) q) p) (step a w (λ q. run_from other ws (write_output other w u p) q) p)
   unfolding step
-  alike_step w ws ih o u p h (Writtens.Refused why) = ih _ _ p (long w o u p h)
-  alike_step w ws ih o u p h (Writtens.End e) =
+  alike_step w ws ih o u p h (Err why) = ih _ _ p (long w o u p h)
+  alike_step w ws ih o u p h (Ok e) =
       let d = ih (write_output order w o p) (write_output other w u p) e (long w o u p h) in
       record { kept = ap (λ (l : List Whole). w ∷ l) d.kept; ends = ap (λ (l : List ℕ). e ∷ l) d.ends; place = d.place }
 

@@ -1,5 +1,5 @@
 -- Reads that look at no byte past their section.
-use Rattle.std.specs.Prelude.{◌≡◌, ℕ, ◌≤◌, List, [], ◌∷◌}
+use Rattle.std.specs.Prelude.{◌≡◌, ℕ, ◌≤◌, List, [], ◌∷◌, Ok}
 use Rattle.core_read.specs.declared.cursor.ByteOrder.{ByteOrder}
 use Rattle.strip_records.specs.Whole.{Lists, Full}
 use Rattle.strip_read.specs.Read.{read_section}
@@ -9,7 +9,7 @@ use Rattle.strip_header.specs.declared.Section.TheVariants as Sections
 pub record Looked (order : ByteOrder) (s : List ℕ) (p : ℕ) (l : Lists) (e : ℕ) : Type 0 where
   pub end : ℕ
   pub reach : ℕ
-  pub answer : (read_section order s p l).answer ≡ Sections.Pane end e reach
+  pub answer : (read_section order s p l).answer ≡ Ok (Sections.Pane end e reach)
   pub inside : reach ≤ e
 
 -- reading s from p, section by section, each with any full lists: each read gives a pane with the next place of this list, and looks no further than it

@@ -1,14 +1,13 @@
 -- A list of section writes, the strip that it leaves, and what reading the strip gives. All in terms of the definitions that the contracts
 -- of `read_section` and `write_section` cite.
-use Rattle.std.specs.Prelude.{◌≡◌, ℕ, List, [], ◌∷◌, length, take}
+use Rattle.std.specs.Prelude.{◌≡◌, ℕ, List, [], ◌∷◌, length, take, Err, Ok}
 use Rattle.core_read.specs.declared.cursor.ByteOrder.{ByteOrder}
-use Rattle.core_checks.specs.declared.checks.Written.{Written}
-use Rattle.core_checks.specs.declared.checks.Written.TheVariants as Writtens
 use Rattle.strip_records.specs.Whole.{Lists, Full, Whole}
 use Rattle.strip.specs.Same.{Same, read_whole}
 use Rattle.strip_read.specs.Read.{read_section, lists_after}
 use Rattle.strip_write.specs.Write.{write_answer, write_output}
 use Rattle.strip_header.specs.declared.Section.TheVariants as Sections
+use Rattle.core_checks.specs.Checks.{Written}
 
 unfoldable pub All : {A : Type 0} → (A → Type 0) → List A → Type 0
 All P [] = Unit {0}
@@ -23,8 +22,8 @@ pub record Run : Type 0 where
 
 -- the next write goes to the end that this one answered, or to the same place again
 unfoldable pub step : Written → Whole → (ℕ → Run) → ℕ → Run
-step (Writtens.End e) w go p = record { out = (go e).out; place = (go e).place; kept = w ∷ (go e).kept; ends = e ∷ (go e).ends }
-step (Writtens.Refused why) w go p = go p
+step (Ok e) w go p = record { out = (go e).out; place = (go e).place; kept = w ∷ (go e).kept; ends = e ∷ (go e).ends }
+step (Err why) w go p = go p
 
 -- each write gets the output as the one before left it
 unfoldable pub run_from : ByteOrder → List Whole → List ℕ → ℕ → Run
@@ -38,8 +37,8 @@ run order ws o = run_from order ws o 0
 
 -- what each of them answers, refusals included; the next one is made at the place of `next_place`
 abbrev pub next_place : Written → ℕ → ℕ
-next_place (Writtens.End e) p = e
-next_place (Writtens.Refused why) p = p
+next_place (Ok e) p = e
+next_place (Err why) p = p
 
 unfoldable pub answers_from : ByteOrder → List Whole → List ℕ → ℕ → List Written
 answers_from order [] o p = []
@@ -66,13 +65,13 @@ SameAll (a ∷ rest) (b ∷ others) = Same a b × SameAll rest others
 pub record Gave (order : ByteOrder) (s : List ℕ) (p : ℕ) (l : Lists) (w : Whole) (e : ℕ) : Type 0 where
   pub end : ℕ
   pub reach : ℕ
-  pub answer : (read_section order s p l).answer ≡ Sections.Pane end e reach
+  pub answer : (read_section order s p l).answer ≡ Ok (Sections.Pane end e reach)
   pub same : Same (read_whole s (read_section order s p l).«record» (lists_after order s p l)) w
 
 -- reading s from p, section by section, each at the next place that the one before gave, each with any full lists, gives these records and
 -- next places, and then the end
 unfoldable pub Gives : ByteOrder → List ℕ → ℕ → List Whole → List ℕ → Type 0
-Gives order s p [] [] = (l : Lists) → Full l → (read_section order s p l).answer ≡ Sections.End
+Gives order s p [] [] = (l : Lists) → Full l → (read_section order s p l).answer ≡ Ok Sections.End
 Gives order s p [] (e ∷ es) = ⊥
 Gives order s p (w ∷ ws) [] = ⊥
 Gives order s p (w ∷ ws) (e ∷ es) = ((l : Lists) → Full l → Gave order s p l w e) × Gives order s e ws es

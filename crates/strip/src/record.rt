@@ -1,35 +1,8 @@
 // A pane of any kind, and what the types say of one with its lists and label.
-ghost use Rattle.std.specs.Prelude.{◌^◌};
 ghost use Rattle.strip_records.specs.Whole.{whole};
-ghost use Rattle.strip_records.specs.Typed.{Below, Typed, TypedRecord};
+ghost use Rattle.strip_records.specs.Typed.{Typed, TypedRecord};
 
 pub use strip_records::record::{Record, blank_record};
-
-// A call of a function that does nothing brings what the type says of a lent list into a proof.
-
-fn seen_u32s(list: &[u32]) {}
-
-fn typed_u32s(list: &[u32])
-    ensures { Below (256 ^ 4) list.now }
-{
-    seen_u32s(list);
-}
-
-fn seen_u16s(list: &[u16]) {}
-
-fn typed_u16s(list: &[u16])
-    ensures { Below (256 ^ 2) list.now }
-{
-    seen_u16s(list);
-}
-
-fn seen_u8s(list: &[u8]) {}
-
-fn typed_u8s(list: &[u8])
-    ensures { Below 256 list.now }
-{
-    seen_u8s(list);
-}
 
 fn typed_record(r: Record)
     ensures { TypedRecord r }
@@ -46,9 +19,4 @@ pub fn typed(r: Record, quads: &[u32], units: &[u16], lines: &[u32], frames: &[u
     ensures { Typed (whole r quads.now units.now lines.now frames.now label.now) }
 {
     typed_record(r);
-    typed_u32s(quads);
-    typed_u16s(units);
-    typed_u32s(lines);
-    typed_u16s(frames);
-    typed_u8s(label);
 }

@@ -9,7 +9,7 @@ use core_read::cursor;
 use core_read::cursor::{ByteOrder, Cursor, Place};
 use core_read::error::Refusal;
 
-// What a section read answers: the place after the body read, the next section and how far the body read looked; the next section; the end; or why not.
+// What a section read finds: the end; a section of another kind, with the next section's place; or a pane, with the place after its body, the next section's and how far its read looked.
 #[derive(Clone, Copy)]
 pub enum Section {
     End,
@@ -21,7 +21,6 @@ pub enum Section {
         next: usize,
         reach: usize,
     },
-    Refused(Refusal),
 }
 
 #[derive(Clone, Copy)]
@@ -54,7 +53,7 @@ pub fn take_header(order: ByteOrder, data: &[u8], place: usize) -> Header
     requires { (place ≤ length «data».now) × (length «data».now ≤ 16777216) }
     ensures { result ≡ header_taken order «data».now place }
 {
-    let letters = cursor::take_u32(ByteOrder::Little, data, Place::At(Cursor::start(place)));
+    let letters = cursor::take_u32(ByteOrder::Little, data, Ok(Cursor::start(place)));
     let p1 = letters.then;
     let word = cursor::take_u32(order, data, p1);
     let p2 = word.then;

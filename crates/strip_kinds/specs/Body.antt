@@ -1,9 +1,6 @@
 -- The body of a pane of any kind, read, and the lists after it: from a place of a run, and as a call.
-use Rattle.std.specs.Prelude.{ℕ, List, length}
+use Rattle.std.specs.Prelude.{ℕ, List, length, None}
 use Rattle.core_read.specs.declared.cursor.ByteOrder.{ByteOrder}
-use Rattle.core_read.specs.declared.cursor.Place.{Place}
-use Rattle.core_checks.specs.declared.checks.Extent.{Extent}
-use Rattle.core_checks.specs.declared.checks.Extent.TheVariants.{Buffer}
 use Rattle.pane.specs.Body.{pane_read, pane_parsed}
 use Rattle.pane.specs.declared.body.PaneParsed.{PaneParsed}
 use Rattle.picture.specs.Body.{picture_read, picture_parsed, quads_read, quads_parsed}
@@ -18,6 +15,8 @@ use Rattle.strip_records.specs.Whole.{Lists, lists, pan1, pic1, txt1, wnd1, ali1
 use Rattle.strip_records.specs.declared.kind.Kind.{Kind}
 use Rattle.strip_records.specs.declared.kind.Kind.TheVariants.{Pan1, Pic1, Txt1, Wnd1, Ali1}
 use Rattle.strip_kinds.specs.declared.body.BodyRead.{BodyRead}
+use Rattle.core_checks.specs.Checks.{Extent}
+use Rattle.core_read.specs.Taken.{Place}
 
 -- the body of a kind at B, read by a run that stands at p, in a buffer or in a section; what the other kinds have is blank
 unfoldable pub body_read : ByteOrder → Kind → List ℕ → Place → ℕ → Extent → BodyRead
@@ -54,7 +53,7 @@ body_parsed order Pic1 s body l =
     let r : PictureParsed = picture_parsed order s body (length l.quads) in
     record { answer = r.answer; «record» = pic1 r.base r.picture }
 body_parsed order Txt1 s body l =
-    let r : TextBoxParsed = text_box_read order s (text_box_start (length s) (length l.units) (length l.lines) body) body Buffer in
+    let r : TextBoxParsed = text_box_read order s (text_box_start (length s) (length l.units) (length l.lines) body) body None in
     record { answer = r.answer; «record» = txt1 r.base r.text_box }
 body_parsed order Wnd1 s body l =
     let r : WindowParsed = window_parsed order s body l.quads l.frames in
@@ -65,10 +64,10 @@ body_parsed order Ali1 s body l =
 
 -- the lists after it
 abbrev pub units_parsed : ByteOrder → List ℕ → ℕ → List ℕ → List ℕ → List ℕ
-units_parsed order s body units lines = units_after order s (text_box_start (length s) (length units) (length lines) body) body Buffer units
+units_parsed order s body units lines = units_after order s (text_box_start (length s) (length units) (length lines) body) body None units
 
 abbrev pub lines_parsed : ByteOrder → List ℕ → ℕ → List ℕ → List ℕ → List ℕ
-lines_parsed order s body units lines = lines_after order s (text_box_start (length s) (length units) (length lines) body) body Buffer lines
+lines_parsed order s body units lines = lines_after order s (text_box_start (length s) (length units) (length lines) body) body None lines
 
 unfoldable pub lists_parsed : ByteOrder → Kind → List ℕ → ℕ → Lists → Lists
 lists_parsed order Pan1 s body l = l

@@ -2,219 +2,150 @@
 ghost use Rattle.std.specs.Prelude.{◌≡◌, ◌^◌, ◌≤◌, ◌<◌, length};
 ghost use Rattle.strip_records.specs.Whole.{lists, Full, pan1, pic1, txt1, wnd1, ali1};
 ghost use Rattle.strip_kinds.specs.Body.{body_read, body_lists};
-ghost use Rattle.picture.specs.Body.{quads_read};
-ghost use Rattle.text_box.specs.Body.{units_after, lines_after};
-ghost use Rattle.window.specs.Body.{read_quads, read_frames};
 
 use alignment::body::AlignmentParsed;
-use core_checks::checks::{Extent, Parsed};
-use core_read::cursor::{ByteOrder, Place};
+use core_read::cursor::{ByteOrder, Cursor, Place};
+use core_read::error::Refusal;
 use pane::body::PaneParsed;
 use picture::body::PictureParsed;
 use strip_records::kind::Kind;
-use strip_records::record::Record;
+use strip_records::record::{Record, blank_record};
 use text_box::body::TextBoxParsed;
 use window::body::WindowParsed;
 
 #[derive(Clone, Copy)]
 pub struct BodyRead {
-    pub answer: Parsed,
+    pub answer: Result<Cursor, Refusal>,
     pub record: Record,
 }
 
-// ---- what a body read of a kind gives, as a record
+// ---- what a body read of a kind gives, as a record; what the other kinds have is blank
 
-fn pan1_read(read: PaneParsed) -> BodyRead
-    ensures { (result.answer ≡ read.answer) × (result.«record» ≡ pan1 read.pane) }
-{
-    let answer = read.answer;
-    let base = read.pane;
-    BodyRead {
-        answer,
-        record: Record {
-            kind: Kind::Pan1,
-            base,
-            picture: picture::blank_picture(),
-            text_box: text_box::blank_text_box(),
-            window: window::blank_window(),
-            alignment: alignment::blank_alignment(),
-        },
+impl From<PaneParsed> for BodyRead {
+    ghost from_gives = { λ read b. (b.answer ≡ read.answer) × (b.«record» ≡ pan1 read.pane) };
+
+    #[tactic(auto, unfolding(strip_records::specs::Whole::blank_record))]
+    fn from(read: PaneParsed) -> BodyRead {
+        BodyRead {
+            answer: read.answer,
+            record: Record {
+                kind: Kind::Pan1,
+                base: read.pane,
+                ..blank_record()
+            },
+        }
     }
 }
 
-fn pic1_read(read: PictureParsed) -> BodyRead
-    ensures { (result.answer ≡ read.answer) × (result.«record» ≡ pic1 read.base read.picture) }
-{
-    let answer = read.answer;
-    let base = read.base;
-    let picture = read.picture;
-    BodyRead {
-        answer,
-        record: Record {
-            kind: Kind::Pic1,
-            base,
-            picture,
-            text_box: text_box::blank_text_box(),
-            window: window::blank_window(),
-            alignment: alignment::blank_alignment(),
-        },
+impl From<PictureParsed> for BodyRead {
+    ghost from_gives = { λ read b. (b.answer ≡ read.answer) × (b.«record» ≡ pic1 read.base read.picture) };
+
+    #[tactic(auto, unfolding(strip_records::specs::Whole::blank_record))]
+    fn from(read: PictureParsed) -> BodyRead {
+        BodyRead {
+            answer: read.answer,
+            record: Record {
+                kind: Kind::Pic1,
+                base: read.base,
+                picture: read.picture,
+                ..blank_record()
+            },
+        }
     }
 }
 
-fn txt1_read(read: TextBoxParsed) -> BodyRead
-    ensures { (result.answer ≡ read.answer) × (result.«record» ≡ txt1 read.base read.text_box) }
-{
-    let answer = read.answer;
-    let base = read.base;
-    let text_box = read.text_box;
-    BodyRead {
-        answer,
-        record: Record {
-            kind: Kind::Txt1,
-            base,
-            picture: picture::blank_picture(),
-            text_box,
-            window: window::blank_window(),
-            alignment: alignment::blank_alignment(),
-        },
+impl From<TextBoxParsed> for BodyRead {
+    ghost from_gives = { λ read b. (b.answer ≡ read.answer) × (b.«record» ≡ txt1 read.base read.text_box) };
+
+    #[tactic(auto, unfolding(strip_records::specs::Whole::blank_record))]
+    fn from(read: TextBoxParsed) -> BodyRead {
+        BodyRead {
+            answer: read.answer,
+            record: Record {
+                kind: Kind::Txt1,
+                base: read.base,
+                text_box: read.text_box,
+                ..blank_record()
+            },
+        }
     }
 }
 
-fn wnd1_read(read: WindowParsed) -> BodyRead
-    ensures { (result.answer ≡ read.answer) × (result.«record» ≡ wnd1 read.base read.window) }
-{
-    let answer = read.answer;
-    let base = read.base;
-    let window = read.window;
-    BodyRead {
-        answer,
-        record: Record {
-            kind: Kind::Wnd1,
-            base,
-            picture: picture::blank_picture(),
-            text_box: text_box::blank_text_box(),
-            window,
-            alignment: alignment::blank_alignment(),
-        },
+impl From<WindowParsed> for BodyRead {
+    ghost from_gives = { λ read b. (b.answer ≡ read.answer) × (b.«record» ≡ wnd1 read.base read.window) };
+
+    #[tactic(auto, unfolding(strip_records::specs::Whole::blank_record))]
+    fn from(read: WindowParsed) -> BodyRead {
+        BodyRead {
+            answer: read.answer,
+            record: Record {
+                kind: Kind::Wnd1,
+                base: read.base,
+                window: read.window,
+                ..blank_record()
+            },
+        }
     }
 }
 
-fn ali1_read(read: AlignmentParsed) -> BodyRead
-    ensures { (result.answer ≡ read.answer) × (result.«record» ≡ ali1 read.base read.alignment) }
-{
-    let answer = read.answer;
-    let base = read.base;
-    let alignment = read.alignment;
-    BodyRead {
-        answer,
-        record: Record {
-            kind: Kind::Ali1,
-            base,
-            picture: picture::blank_picture(),
-            text_box: text_box::blank_text_box(),
-            window: window::blank_window(),
-            alignment,
-        },
+impl From<AlignmentParsed> for BodyRead {
+    ghost from_gives = { λ read b. (b.answer ≡ read.answer) × (b.«record» ≡ ali1 read.base read.alignment) };
+
+    #[tactic(auto, unfolding(strip_records::specs::Whole::blank_record))]
+    fn from(read: AlignmentParsed) -> BodyRead {
+        BodyRead {
+            answer: read.answer,
+            record: Record {
+                kind: Kind::Ali1,
+                base: read.base,
+                alignment: read.alignment,
+                ..blank_record()
+            },
+        }
     }
-}
-
-// ---- read into the lists that it takes
-
-fn read_pic1(
-    order: ByteOrder,
-    data: &[u8],
-    p: Place,
-    body: usize,
-    extent: Extent,
-    quads: &mut [u32],
-) -> BodyRead
-    requires { (body < 2 ^ 32) × (2040 ≤ length quads.old) }
-    ensures value { result ≡ body_read order Kind.Pic1 «data».now p body extent }
-    ensures quads_after { quads.new ≡ quads_read order «data».now p body extent quads.old }
-{
-    pic1_read(picture::body::read(order, data, p, body, extent, quads))
-}
-
-fn read_txt1(
-    order: ByteOrder,
-    data: &[u8],
-    p: Place,
-    body: usize,
-    extent: Extent,
-    units: &mut [u16],
-    lines: &mut [u32],
-) -> BodyRead
-    requires { (8 ≤ body) × (body < 2 ^ 32) × (32767 ≤ length units.old) × (510 ≤ length lines.old) }
-    ensures value { result ≡ body_read order Kind.Txt1 «data».now p body extent }
-    ensures units_after { units.new ≡ units_after order «data».now p body extent units.old }
-    ensures lines_after { lines.new ≡ lines_after order «data».now p body extent lines.old }
-{
-    txt1_read(text_box::body::read(order, data, p, body, extent, units, lines))
-}
-
-fn read_wnd1(
-    order: ByteOrder,
-    data: &[u8],
-    p: Place,
-    body: usize,
-    extent: Extent,
-    quads: &mut [u32],
-    frames: &mut [u16],
-) -> BodyRead
-    requires { (8 ≤ body) × (body < 2 ^ 32) × (2040 ≤ length quads.old) × (510 ≤ length frames.old) }
-    ensures value { result ≡ body_read order Kind.Wnd1 «data».now p body extent }
-    ensures quads_after { quads.new ≡ read_quads order «data».now p body extent quads.old }
-    ensures frames_after { frames.new ≡ read_frames order «data».now p body extent frames.old }
-{
-    wnd1_read(window::body::read(order, data, p, body, extent, quads, frames))
 }
 
 // ---- by the kind
 
 // The body of a kind, with no list lent.
+#[tactic(auto, unfolding(crate::specs::Body::body_read, pane::specs::Body::pane_read, picture::specs::Body::picture_read, text_box::specs::Body::text_box_read, window::specs::Body::window_read, alignment::specs::Body::alignment_read))]
 pub fn measure_kind(
     order: ByteOrder,
     kind: Kind,
     data: &[u8],
     p: Place,
     body: usize,
-    extent: Extent,
+    extent: Option<usize>,
 ) -> BodyRead
     requires { (8 ≤ body) × (body < 2 ^ 32) }
     ensures { result ≡ body_read order kind «data».now p body extent }
 {
     match kind {
-        Kind::Pan1 => {
-            let m = pane::body::measure(order, data, p, body, extent);
-            pan1_read(pane::body::given(m))
-        }
+        Kind::Pan1 => pane::body::given(pane::body::measure(order, data, p, body, extent)).into(),
         Kind::Pic1 => {
-            let m = picture::body::measure(order, data, p, body, extent);
-            pic1_read(picture::body::given(m))
+            picture::body::given(picture::body::measure(order, data, p, body, extent)).into()
         }
         Kind::Txt1 => {
-            let m = text_box::body::measure(order, data, p, body, extent);
-            txt1_read(text_box::body::given(m))
+            text_box::body::given(text_box::body::measure(order, data, p, body, extent)).into()
         }
         Kind::Wnd1 => {
-            let m = window::body::measure(order, data, p, body, extent);
-            wnd1_read(window::body::given(m))
+            window::body::given(window::body::measure(order, data, p, body, extent)).into()
         }
         Kind::Ali1 => {
-            let m = alignment::body::measure(order, data, p, body, extent);
-            ali1_read(alignment::body::given(m))
+            alignment::body::given(alignment::body::measure(order, data, p, body, extent)).into()
         }
     }
 }
 
 // The body of a kind, and its numbers into the lists that it takes.
+#[tactic(auto, unfolding(crate::specs::Body::body_read, crate::specs::Body::body_lists))]
 pub fn read_kind(
     order: ByteOrder,
     kind: Kind,
     data: &[u8],
     p: Place,
     body: usize,
-    extent: Extent,
+    extent: Option<usize>,
     quads: &mut [u32],
     units: &mut [u16],
     lines: &mut [u32],
@@ -225,10 +156,9 @@ pub fn read_kind(
     ensures frames_after { lists quads.new units.new lines.new frames.new ≡ body_lists order kind «data».now p body extent (lists quads.old units.old lines.old frames.old) }
 {
     match kind {
-        Kind::Pan1 => measure_kind(order, Kind::Pan1, data, p, body, extent),
-        Kind::Pic1 => read_pic1(order, data, p, body, extent, quads),
-        Kind::Txt1 => read_txt1(order, data, p, body, extent, units, lines),
-        Kind::Wnd1 => read_wnd1(order, data, p, body, extent, quads, frames),
-        Kind::Ali1 => measure_kind(order, Kind::Ali1, data, p, body, extent),
+        Kind::Pic1 => picture::body::read(order, data, p, body, extent, quads).into(),
+        Kind::Txt1 => text_box::body::read(order, data, p, body, extent, units, lines).into(),
+        Kind::Wnd1 => window::body::read(order, data, p, body, extent, quads, frames).into(),
+        _ => measure_kind(order, kind, data, p, body, extent),
     }
 }

@@ -7,13 +7,13 @@ use lib.ListN.{length}
 use lib.Dec.{ltb}
 use borrow.Author.Tests.{ltb-false}
 use Rattle.core_read.specs.declared.cursor.Cursor.{Cursor}
-use Rattle.core_read.specs.declared.cursor.Place.TheVariants.{At}
 use Rattle.core_checks.proofs.Checked.{SectionOk, section_started, list_cleared, or_false}
 use Rattle.strip_records.specs.Whole.{Lists, Full}
 use Rattle.strip_header.specs.Header.{read_start, size_bad}
+use Rattle.std.specs.Prelude.{Ok}
 
 -- 1, 2 and 3
-pub read_started : (n p : ℕ) (l : Lists) (c : Cursor) → read_start n p (length l.quads) (length l.units) (length l.lines) (length l.frames) ≡ At c
+pub read_started : (n p : ℕ) (l : Lists) (c : Cursor) → read_start n p (length l.quads) (length l.units) (length l.lines) (length l.frames) ≡ Ok c
     → SectionOk n p × Full l
 unfolding read_start
 read_started n p l c e =

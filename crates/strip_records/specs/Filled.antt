@@ -1,12 +1,11 @@
 -- How many numbers of each lent list a record counts: a read of it fills the first so many, and a write of it is to be handed so many.
-use Rattle.std.specs.Prelude.{ℕ, ◌*◌, ◌/◌}
+use Rattle.std.specs.Prelude.{ℕ, ◌*◌, ◌/◌, None, Some}
 use Rattle.text_box_parts.specs.declared.Text.{Text}
 use Rattle.text_box_parts.specs.declared.Text.TheVariants as text
-use Rattle.text_box_parts.specs.declared.LineTable.{LineTable}
-use Rattle.text_box_parts.specs.declared.LineTable.TheVariants as line
 use Rattle.strip_records.specs.declared.kind.Kind.{Kind}
 use Rattle.strip_records.specs.declared.kind.Kind.TheVariants.{Pan1, Pic1, Txt1, Wnd1, Ali1}
 use Rattle.strip_records.specs.declared.record.Record.{Record}
+use Rattle.text_box_parts.specs.Parts.{LineTable}
 
 -- a text has text_length / 2 units, rounded down; a line table has an offset and a width a line
 abbrev pub text_numbers : Text → ℕ → ℕ
@@ -14,8 +13,8 @@ text_numbers text.Absent long = 0
 text_numbers text.Present long = long / 2
 
 abbrev pub table_numbers : LineTable → ℕ
-table_numbers line.Absent = 0
-table_numbers (line.Present count) = 2 * count
+table_numbers None = 0
+table_numbers (Some count) = 2 * count
 
 -- of the lists 1 to 4
 pub record Numbers : Type 0 where

@@ -1,9 +1,7 @@
 -- Each kind has its letters and its fixed length.
-use Rattle.std.specs.Prelude.{ℕ, cond, List, [], ◌∷◌, eqb}
+use Rattle.std.specs.Prelude.{ℕ, cond, List, [], ◌∷◌, eqb, None, Some, Option}
 use Rattle.strip_records.specs.declared.kind.Kind.{Kind}
 use Rattle.strip_records.specs.declared.kind.Kind.TheVariants.{Pan1, Pic1, Txt1, Wnd1, Ali1}
-use Rattle.strip_records.specs.declared.kind.KindFound.{KindFound}
-use Rattle.strip_records.specs.declared.kind.KindFound.TheVariants.{Is, Other}
 
 -- the letters as bytes, and as the number that they spell, the lowest byte first
 unfoldable pub letter_bytes : Kind → List ℕ
@@ -28,12 +26,16 @@ length_of Txt1 = 160
 length_of Wnd1 = 104
 length_of Ali1 = 88
 
+-- a kind, if there is one
+abbrev pub KindFound : Type 0
+KindFound = Option Kind
+
 -- the kind that has these letters
 unfoldable pub kind_of : ℕ → KindFound
 kind_of n =
-    cond (eqb n (letters_of Pan1)) (Is Pan1)
-    (cond (eqb n (letters_of Pic1)) (Is Pic1)
-    (cond (eqb n (letters_of Txt1)) (Is Txt1)
-    (cond (eqb n (letters_of Wnd1)) (Is Wnd1)
-    (cond (eqb n (letters_of Ali1)) (Is Ali1)
-    Other))))
+    cond (eqb n (letters_of Pan1)) (Some Pan1)
+    (cond (eqb n (letters_of Pic1)) (Some Pic1)
+    (cond (eqb n (letters_of Txt1)) (Some Txt1)
+    (cond (eqb n (letters_of Wnd1)) (Some Wnd1)
+    (cond (eqb n (letters_of Ali1)) (Some Ali1)
+    None))))

@@ -4,7 +4,7 @@ ghost use Rattle.strip_records.specs.Filled.{text_numbers, table_numbers, quad_n
 
 use crate::kind::Kind;
 use crate::record::Record;
-use text_box_parts::{LineTable, Text};
+use text_box_parts::Text;
 
 // ---- of a count; of a text and a line table
 
@@ -29,13 +29,10 @@ pub fn units_of(text: Text, text_length: u16) -> usize
     }
 }
 
-pub fn lines_of(table: LineTable) -> usize
+pub fn lines_of(table: Option<u8>) -> usize
     ensures { (result ≡ table_numbers table) × (result ≤ 510) }
 {
-    match table {
-        LineTable::Absent => 0,
-        LineTable::Present { count } => 2 * (count as usize),
-    }
+    table.map_or(0, |count| 2 * (count as usize))
 }
 
 // ---- of a record
@@ -43,59 +40,36 @@ pub fn lines_of(table: LineTable) -> usize
 pub fn quads_filled(r: Record) -> usize
     ensures { (result ≡ quad_numbers r) × (result ≤ 2040) }
 {
-    let kind = r.kind;
-    let picture = r.picture;
-    let window = r.window;
-    let content = window.content;
-    match kind {
-        Kind::Pan1 => 0,
-        Kind::Pic1 => quads_of(picture.quad_count),
-        Kind::Txt1 => 0,
-        Kind::Wnd1 => quads_of(content.quad_count),
-        Kind::Ali1 => 0,
+    match r.kind {
+        Kind::Pic1 => quads_of(r.picture.quad_count),
+        Kind::Wnd1 => quads_of(r.window.content.quad_count),
+        _ => 0,
     }
 }
 
 pub fn units_filled(r: Record) -> usize
     ensures { (result ≡ unit_numbers r) × (result ≤ 32767) }
 {
-    let kind = r.kind;
-    let own = r.text_box;
-    let text = own.text;
-    match kind {
-        Kind::Pan1 => 0,
-        Kind::Pic1 => 0,
-        Kind::Txt1 => units_of(text, own.text_length),
-        Kind::Wnd1 => 0,
-        Kind::Ali1 => 0,
+    match r.kind {
+        Kind::Txt1 => units_of(r.text_box.text, r.text_box.text_length),
+        _ => 0,
     }
 }
 
 pub fn lines_filled(r: Record) -> usize
     ensures { (result ≡ line_numbers r) × (result ≤ 510) }
 {
-    let kind = r.kind;
-    let own = r.text_box;
-    let table = own.line_table;
-    match kind {
-        Kind::Pan1 => 0,
-        Kind::Pic1 => 0,
-        Kind::Txt1 => lines_of(table),
-        Kind::Wnd1 => 0,
-        Kind::Ali1 => 0,
+    match r.kind {
+        Kind::Txt1 => lines_of(r.text_box.line_table),
+        _ => 0,
     }
 }
 
 pub fn frames_filled(r: Record) -> usize
     ensures { (result ≡ frame_numbers r) × (result ≤ 510) }
 {
-    let kind = r.kind;
-    let own = r.window;
-    match kind {
-        Kind::Pan1 => 0,
-        Kind::Pic1 => 0,
-        Kind::Txt1 => 0,
-        Kind::Wnd1 => frames_of(own.frame_count),
-        Kind::Ali1 => 0,
+    match r.kind {
+        Kind::Wnd1 => frames_of(r.window.frame_count),
+        _ => 0,
     }
 }

@@ -11,12 +11,6 @@ pub enum Kind {
     Ali1,
 }
 
-#[derive(Clone, Copy)]
-pub enum KindFound {
-    Is(Kind),
-    Other,
-}
-
 impl Kind {
     // The letters as the number that they spell, the lowest byte first.
     pub const PAN1: u32 = 0x316E6170;
@@ -55,25 +49,18 @@ impl Kind {
         }
     }
 
-    // The kind that has these letters, if one has.
-    pub fn of_letters(n: u32) -> KindFound
+    // The kind that has these letters, if one has. No `TryFrom`, and `letters` no `From`: a kind has two numbers, its letters and its length, and other letters are no error.
+    #[tactic(auto, unfolding(crate::specs::Kinds::kind_of))]
+    pub fn of_letters(n: u32) -> Option<Kind>
         ensures { result ≡ kind_of n }
     {
-        if n == Kind::PAN1 {
-            return KindFound::Is(Kind::Pan1);
+        match n {
+            Kind::PAN1 => Some(Kind::Pan1),
+            Kind::PIC1 => Some(Kind::Pic1),
+            Kind::TXT1 => Some(Kind::Txt1),
+            Kind::WND1 => Some(Kind::Wnd1),
+            Kind::ALI1 => Some(Kind::Ali1),
+            _ => None,
         }
-        if n == Kind::PIC1 {
-            return KindFound::Is(Kind::Pic1);
-        }
-        if n == Kind::TXT1 {
-            return KindFound::Is(Kind::Txt1);
-        }
-        if n == Kind::WND1 {
-            return KindFound::Is(Kind::Wnd1);
-        }
-        if n == Kind::ALI1 {
-            return KindFound::Is(Kind::Ali1);
-        }
-        KindFound::Other
     }
 }

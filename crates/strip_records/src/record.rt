@@ -21,6 +21,7 @@ pub struct Record {
 }
 
 // The record beside an answer that is no pane.
+#[tactic(auto, unfolding(crate::specs::Whole::blank_record))]
 pub fn blank_record() -> Record
     ensures { result ≡ blank_record }
 {

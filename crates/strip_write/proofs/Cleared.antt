@@ -4,11 +4,9 @@ use Prim.Native.Nat.{ℕ, ◌+◌, ◌≤◌}
 use native.Mathlib.Omega.{arith}
 use mathlib.Core.List.{List}
 use Rattle.core_read.specs.Bytes.{padding}
-use Rattle.core_read.specs.Taken.{start}
+use Rattle.core_read.specs.Taken.{start, Place}
 use Rattle.core_checks.specs.Checks.{length_checked, section_checked}
 use Rattle.core_read.specs.declared.cursor.Cursor.{Cursor}
-use Rattle.core_read.specs.declared.cursor.Place.{Place}
-use Rattle.core_read.specs.declared.cursor.Place.TheVariants.{At}
 use Rattle.core_checks.proofs.Checked.{SectionOk, length_cleared, section_cleared, end_cleared}
 use Rattle.pane_checks.specs.Checks.{names_checked, reserve_checked}
 use Rattle.pane.proofs.Cleared.{Good, names_cleared, reserve_cleared}
@@ -24,6 +22,7 @@ use Rattle.strip_write.specs.Write.{own_length_checked, own_name_checked, own_ch
 use Rattle.strip_records.specs.declared.kind.Kind.{Kind}
 use Rattle.strip_records.specs.declared.kind.Kind.TheVariants.{Pan1, Pic1, Txt1, Wnd1, Ali1}
 use Rattle.strip_records.specs.declared.record.Record.{Record}
+use Rattle.std.specs.Prelude.{Ok}
 
 -- what the kind's own checks leave: 1 and 9 of a label, then 11 to 15
 unfoldable pub OwnLength : Kind → Record → List ℕ → Type 0
@@ -47,7 +46,7 @@ OwnGood Txt1 w = GoodTextBox w.pane.text_box w.lists.units w.lists.lines w.label
 OwnGood Wnd1 w = GoodWindow w.lists.quads w.lists.frames
 OwnGood Ali1 w = Unit {0}
 
-length_cleared_by : (k : Kind) (p : Place) (r : Record) (label : List ℕ) (c : Cursor) → own_length_checked k p r label ≡ At c → (p ≡ At c) × OwnLength k r label
+length_cleared_by : (k : Kind) (p : Place) (r : Record) (label : List ℕ) (c : Cursor) → own_length_checked k p r label ≡ Ok c → (p ≡ Ok c) × OwnLength k r label
 unfolding own_length_checked OwnLength
 length_cleared_by Pan1 p r label c e = (e, tt)
 length_cleared_by Pic1 p r label c e = (e, tt)
@@ -55,7 +54,7 @@ length_cleared_by Txt1 p r label c e = label_length_cleared p (label_part r.text
 length_cleared_by Wnd1 p r label c e = (e, tt)
 length_cleared_by Ali1 p r label c e = (e, tt)
 
-name_cleared_by : (k : Kind) (p : Place) (r : Record) (label : List ℕ) (c : Cursor) → own_name_checked k p r label ≡ At c → (p ≡ At c) × OwnName k r label
+name_cleared_by : (k : Kind) (p : Place) (r : Record) (label : List ℕ) (c : Cursor) → own_name_checked k p r label ≡ Ok c → (p ≡ Ok c) × OwnName k r label
 unfolding own_name_checked OwnName
 name_cleared_by Pan1 p r label c e = (e, tt)
 name_cleared_by Pic1 p r label c e = (e, tt)
@@ -63,7 +62,7 @@ name_cleared_by Txt1 p r label c e = label_name_cleared p (label_part r.text_box
 name_cleared_by Wnd1 p r label c e = (e, tt)
 name_cleared_by Ali1 p r label c e = (e, tt)
 
-own_early : (k : Kind) (p : Place) (w : Whole) (c : Cursor) → own_checked k p w ≡ At c → p ≡ At c
+own_early : (k : Kind) (p : Place) (w : Whole) (c : Cursor) → own_checked k p w ≡ Ok c → p ≡ Ok c
 unfolding own_checked
 own_early Pan1 p w c e = e
 own_early Pic1 p w c e = (picture_cleared p w.lists.quads c e).0
@@ -71,7 +70,7 @@ own_early Txt1 p w c e = text_box_early p w.pane.text_box w.lists.units w.lists.
 own_early Wnd1 p w c e = (window_cleared p w.lists.quads w.lists.frames c e).0
 own_early Ali1 p w c e = e
 
-own_cleared : (k : Kind) (p : Place) (w : Whole) (c : Cursor) → own_checked k p w ≡ At c → OwnLength k w.pane w.label → OwnName k w.pane w.label → OwnGood k w
+own_cleared : (k : Kind) (p : Place) (w : Whole) (c : Cursor) → own_checked k p w ≡ Ok c → OwnLength k w.pane w.label → OwnName k w.pane w.label → OwnGood k w
 unfolding own_checked OwnLength OwnName OwnGood
 own_cleared Pan1 p w c e l n = tt
 own_cleared Pic1 p w c e l n = (picture_cleared p w.lists.quads c e).1
@@ -89,11 +88,11 @@ abbrev pub before_end : Whole → ℕ → ℕ → Place
 before_end w n p =
     own_checked w.pane.kind
     (reserve_checked
-    (own_name_checked w.pane.kind (names_checked (section_checked (own_length_checked w.pane.kind (length_checked (At (start p)) n) w.pane w.label) n p) w.pane.base) w.pane w.label)
+    (own_name_checked w.pane.kind (names_checked (section_checked (own_length_checked w.pane.kind (length_checked (Ok (start p)) n) w.pane w.label) n p) w.pane.base) w.pane w.label)
     w.pane.base)
     w
 
-pub checks_cleared : (w : Whole) (n p : ℕ) (c : Cursor) → before_end w n p ≡ At c → Passed w n p
+pub checks_cleared : (w : Whole) (n p : ℕ) (c : Cursor) → before_end w n p ≡ Ok c → Passed w n p
 checks_cleared w n p c e =
     let k = w.pane.kind in
     let b = w.pane.base in
@@ -116,7 +115,7 @@ pub record Accepts (w : Whole) (n p : ℕ) : Type 0 where
   pub own : OwnGood w.pane.kind w
   pub fits : section_end p w ≤ n
 
-pub write_cleared : (w : Whole) (n p : ℕ) (c : Cursor) → write_checked w n p ≡ At c → Accepts w n p
+pub write_cleared : (w : Whole) (n p : ℕ) (c : Cursor) → write_checked w n p ≡ Ok c → Accepts w n p
 unfolding write_checked
 write_cleared w n p c e =
     let (h, f) = end_cleared _ _ n c e in

@@ -5,15 +5,11 @@ use native.Mathlib.Omega.{arith}
 use mathlib.Core.List.{List, [], ◌++◌, append_assoc}
 use lib.ListN.{length, replicate}
 use Rattle.core_read.specs.Bytes.{bytes_of, padding, Put}
-use Rattle.core_read.specs.Taken.{start}
-use Rattle.core_checks.specs.Checks.{length_checked, section_checked, section_start, end_checked}
+use Rattle.core_read.specs.Taken.{start, Place}
+use Rattle.core_checks.specs.Checks.{length_checked, section_checked, section_start, end_checked, Written}
 use Rattle.core_read.specs.declared.error.Refusal.{Refusal}
-use Rattle.core_checks.specs.declared.checks.Written.{Written}
-use Rattle.core_checks.specs.declared.checks.Written.TheVariants as Writtens
 use Rattle.core_read.specs.declared.cursor.ByteOrder.{ByteOrder}
 use Rattle.core_read.specs.declared.cursor.Cursor.{Cursor}
-use Rattle.core_read.specs.declared.cursor.Place.{Place}
-use Rattle.core_read.specs.declared.cursor.Place.TheVariants.{At, Refused}
 use Rattle.core_checks.proofs.Checked.{end_cleared, end_stays, wrote, not_wrote}
 use Rattle.core_write.proofs.Puts.{◌then◌, put_as, put_at, put_none}
 use Rattle.pane_read.specs.Pane.{encode_pane, Sound}
@@ -41,42 +37,31 @@ use Rattle.strip_records.specs.declared.kind.Kind.TheVariants.{Pan1, Pic1, Txt1,
 use Rattle.strip_records.specs.declared.record.Record.{Record}
 use Rattle.strip_write.proofs.Cleared.{OwnGood, before_end, checks_cleared, write_cleared}
 use Rattle.strip_write.proofs.Steps.{room, size_parts}
+use Rattle.std.specs.Prelude.{Err, Ok}
 
 -- ---- any kind
 
 size_of_lem : (m : ℕ) → 8 + (m + padding m) ≡ section_size m
 size_of_lem m = omega (arith, size_parts m)
 
-module _ (w : Whole) (n p : ℕ) (q : Place) (e : q ≡ before_end w n p) where
+module _ (w : Whole) (n p : ℕ) (e : before_end w n p ≡ Ok (start p)) where
   -- the checks before 16 were passed
-  pub place_small : (c : Cursor) → q ≡ At c → p ≤ 16777216
-  place_small c h = let k = checks_cleared w n p c (sym e ∙ h) in omega (arith, k.place.most, k.place.within)
+  pub place_small : p ≤ 16777216
+  place_small = let k = checks_cleared w n p (start p) e in omega (arith, k.place.most, k.place.within)
 
-  pub own_good : (c : Cursor) → q ≡ At c → OwnGood w.pane.kind w
-  own_good c h = (checks_cleared w n p c (sym e ∙ h)).own
+  pub own_good : OwnGood w.pane.kind w
+  own_good = (checks_cleared w n p (start p) e).own
 
-  -- one of them refused
-  pub stopped : (why : Refusal) → q ≡ Refused why → q ≡ write_checked w n p
-  unfolding write_checked
-  stopped why h = h ∙ end_stays (before_end w n p) _ n why (sym e ∙ h)
+  -- 16 was passed too, with the body's length m: the base can be put, and there is room
+  module _ (m : ℕ) (f : m ≡ body_length w.pane.kind (p + 8) w) (g : (c : Cursor) → end_checked (Ok c) (p + section_size m) n ≡ Ok c) where
+    pub end_made : write_checked w n p ≡ Ok (start p)
+    unfolding write_checked
+    end_made = rw (e, ← f) (g (start p))
 
-  -- check 16, with the body's length m
-  pub end_made : (m : ℕ) (r : Place) → m ≡ body_length w.pane.kind (p + 8) w → r ≡ end_checked q (p + section_size m) n → r ≡ write_checked w n p
-  unfolding write_checked
-  end_made m r f g = rw (g, f, e)
-
-  -- it was passed: the base can be put, and there is room
-  pub fits : (m : ℕ) (r : Place) → m ≡ body_length w.pane.kind (p + 8) w → r ≡ end_checked q (p + section_size m) n → (c : Cursor) → r ≡ At c
-      → Sound w.pane.base × (p + 8 + m + padding m ≤ n)
-  fits m r f g c h =
-      let (_, long) = end_cleared q _ n c (sym g ∙ h) in
-      (sound _ (write_cleared w n p c (sym (end_made m r f g) ∙ h)).good, room m p n long)
-
--- refused: the answer, and the output as it was
-pub not_written : (order : ByteOrder) (w : Whole) (o : List ℕ) (p : ℕ) (r : Place) → r ≡ write_checked w (length o) p → (why : Refusal) → r ≡ Refused why
-    → (Writtens.Refused why ≡ write_answer w (length o) p) × (o ≡ write_output order w o p)
-unfolding write_answer write_output
-not_written order w o p r e why h = not_wrote _ _ _ _ _ (sym e ∙ h)
+    pub fits : Sound w.pane.base × (p + 8 + m + padding m ≤ n)
+    fits =
+        let (_, long) = end_cleared _ _ n (start p) (g (start p)) in
+        (sound _ (checks_cleared w n p (start p) e).good, room m p n long)
 
 section_bytes : (order : ByteOrder) (w : Whole) (p m : ℕ) → m ≡ body_length w.pane.kind (p + 8) w
     → letter_bytes w.pane.kind ++ bytes_of order 4 (section_size m) ++ (encode_body w.pane.kind order (p + 8) w ++ replicate (padding m) 0) ≡ section order p w
@@ -84,56 +69,57 @@ unfolding section
 section_bytes order w p m f = rw f (append_assoc (letter_bytes w.pane.kind) (bytes_of order 4 (size_of p w)) _)
 
 -- accepted: header, body, padding
-pub written : (order : ByteOrder) (w : Whole) (m y : ℕ) {o o₁ o₂ o₃ : List ℕ} {p a b z : ℕ} (r : Place) → r ≡ write_checked w (length o) p → (c : Cursor) → r ≡ At c
+pub written : (order : ByteOrder) (w : Whole) (m y : ℕ) {o o₁ o₂ o₃ : List ℕ} {p a b z : ℕ} (c : Cursor) → write_checked w (length o) p ≡ Ok c
     → m ≡ body_length w.pane.kind (p + 8) w → y ≡ padding m
     → Put o p 8 (letter_bytes w.pane.kind ++ bytes_of order 4 (section_size m)) a o₁
     → Put o₁ a (body_length w.pane.kind (p + 8) w) (encode_body w.pane.kind order (p + 8) w) b o₂
     → Put o₂ b y (replicate y 0) z o₃
-    → (Writtens.End z ≡ write_answer w (length o) p) × (o₃ ≡ write_output order w o p)
+    → (Ok z ≡ write_answer w (length o) p) × (o₃ ≡ write_output order w o p)
 unfolding write_answer write_output
-written order w m y r e c h f g header body zeros =
+written order w m y c h f g header body zeros =
     let zeros' = put_as g (ap (λ (k : ℕ). replicate k 0) g) zeros in
-    wrote _ _ (sym e ∙ h) (put_as (size_of_lem m ∙ ap section_size f) (section_bytes order w _ m f) (header then put_as (sym f) refl body then zeros'))
+    wrote _ _ h (put_as (size_of_lem m ∙ ap section_size f) (section_bytes order w _ m f) (header then put_as (sym f) refl body then zeros'))
 
--- ---- the checks of each kind before 16
+-- ---- the checks of each kind before 16: what the last of them answers where those before it were passed
 
-module _ (base : Pane) (n p : ℕ) (q : Place) (e : q ≡ reserve_checked (names_checked (section_start n p) base) base) where
-  pub pan1_checks : q ≡ before_end (whole (pan1 base) [] [] [] [] []) n p
+module _ (base : Pane) (n p : ℕ) (r : Place) where
+  pub pan1_run : reserve_checked (names_checked (section_start n p) base) base ≡ r → before_end (whole (pan1 base) [] [] [] [] []) n p ≡ r
   unfolding section_start own_length_checked own_name_checked own_checked
-  pan1_checks = e
+  pan1_run e = e
 
-  pub pic1_checks : (own : PicturePane) (quads : List ℕ) (r : Place) → r ≡ picture_checked q quads → r ≡ before_end (whole (pic1 base own) quads [] [] [] []) n p
+  pub ali1_run : (own : AlignmentPane) → reserve_checked (names_checked (section_start n p) base) base ≡ r → before_end (whole (ali1 base own) [] [] [] [] []) n p ≡ r
   unfolding section_start own_length_checked own_name_checked own_checked
-  pic1_checks own quads r h = rw (h, e)
+  ali1_run own e = e
 
-  pub wnd1_checks : (own : WindowPane) (quads frames : List ℕ) (r : Place) → r ≡ window_checked q quads frames → r ≡ before_end (whole (wnd1 base own) quads [] [] frames []) n p
-  unfolding section_start own_length_checked own_name_checked own_checked
-  wnd1_checks own quads frames r h = rw (h, e)
+  module _ (e : reserve_checked (names_checked (section_start n p) base) base ≡ Ok (start p)) where
+    pub pic1_run : (own : PicturePane) (quads : List ℕ) → picture_checked (Ok (start p)) quads ≡ r → before_end (whole (pic1 base own) quads [] [] [] []) n p ≡ r
+    unfolding section_start own_length_checked own_name_checked own_checked
+    pic1_run own quads h = rw e h
 
-  pub ali1_checks : (own : AlignmentPane) → q ≡ before_end (whole (ali1 base own) [] [] [] [] []) n p
-  unfolding section_start own_length_checked own_name_checked own_checked
-  ali1_checks own = e
+    pub wnd1_run : (own : WindowPane) (quads frames : List ℕ) → window_checked (Ok (start p)) quads frames ≡ r → before_end (whole (wnd1 base own) quads [] [] frames []) n p ≡ r
+    unfolding section_start own_length_checked own_name_checked own_checked
+    wnd1_run own quads frames h = rw e h
 
-pub txt1_checks : (base : Pane) (own : TextBoxPane) (units lines label : List ℕ) (n p : ℕ) (q r : Place)
-    → q ≡ reserve_checked (label_name_checked (names_checked (section_checked (label_length_checked (length_checked (At (start p)) n) (label_part own.label label)) n p) base) (label_part own.label label)) base
-    → r ≡ text_box_checked q own units lines → r ≡ before_end (whole (txt1 base own) [] units lines [] label) n p
-unfolding own_length_checked own_name_checked own_checked
-txt1_checks base own units lines label n p q r e h = rw (h, e)
+  pub txt1_run : (own : TextBoxPane) (units lines label : List ℕ)
+      → reserve_checked (label_name_checked (names_checked (section_checked (label_length_checked (length_checked (Ok (start p)) n) (label_part own.label label)) n p) base) (label_part own.label label)) base ≡ Ok (start p)
+      → text_box_checked (Ok (start p)) own units lines ≡ r → before_end (whole (txt1 base own) [] units lines [] label) n p ≡ r
+  unfolding own_length_checked own_name_checked own_checked
+  txt1_run own units lines label e h = rw e h
 
 -- ---- what they tell of the lists
 
-module _ (n p : ℕ) (base : Pane) (q : Place) (c : Cursor) (h : q ≡ At c) where
-  pub pic1_good : (own : PicturePane) (quads : List ℕ) → q ≡ before_end (whole (pic1 base own) quads [] [] [] []) n p → GoodPicture quads
+module _ (n p : ℕ) (base : Pane) where
+  pub pic1_good : (own : PicturePane) (quads : List ℕ) → before_end (whole (pic1 base own) quads [] [] [] []) n p ≡ Ok (start p) → GoodPicture quads
   unfolding OwnGood
-  pic1_good own quads e = own_good (whole (pic1 base own) quads [] [] [] []) n p q e c h
+  pic1_good own quads e = own_good (whole (pic1 base own) quads [] [] [] []) n p e
 
-  pub wnd1_good : (own : WindowPane) (quads frames : List ℕ) → q ≡ before_end (whole (wnd1 base own) quads [] [] frames []) n p → GoodWindow quads frames
+  pub wnd1_good : (own : WindowPane) (quads frames : List ℕ) → before_end (whole (wnd1 base own) quads [] [] frames []) n p ≡ Ok (start p) → GoodWindow quads frames
   unfolding OwnGood
-  wnd1_good own quads frames e = own_good (whole (wnd1 base own) quads [] [] frames []) n p q e c h
+  wnd1_good own quads frames e = own_good (whole (wnd1 base own) quads [] [] frames []) n p e
 
-  pub txt1_good : (own : TextBoxPane) (units lines label : List ℕ) → q ≡ before_end (whole (txt1 base own) [] units lines [] label) n p → own.text_length < 256 ^ 2 → Small own units lines label
+  pub txt1_good : (own : TextBoxPane) (units lines label : List ℕ) → before_end (whole (txt1 base own) [] units lines [] label) n p ≡ Ok (start p) → own.text_length < 256 ^ 2 → Small own units lines label
   unfolding OwnGood
-  txt1_good own units lines label e t = small own units lines label t (own_good (whole (txt1 base own) [] units lines [] label) n p q e c h)
+  txt1_good own units lines label e t = small own units lines label t (own_good (whole (txt1 base own) [] units lines [] label) n p e)
 
 -- ---- the bytes of each kind
 
@@ -144,38 +130,38 @@ pub window_length_lem : (p : ℕ) (quads frames : List ℕ) (x : ℕ) → x ≡ 
 unfolding window.body_length
 window_length_lem p quads frames x e = rw e
 
-module _ (order : ByteOrder) (base : Pane) {o o₁ o₂ : List ℕ} {p a z : ℕ} (r : Place) (c : Cursor) (h : r ≡ At c) where
-  pub pan1_written : r ≡ write_checked (whole (pan1 base) [] [] [] [] []) (length o) p → Put o p 8 (letter_bytes Pan1 ++ bytes_of order 4 (section_size 76)) a o₁
+module _ (order : ByteOrder) (base : Pane) {o o₁ o₂ : List ℕ} {p a z : ℕ} (c : Cursor) where
+  pub pan1_written : write_checked (whole (pan1 base) [] [] [] [] []) (length o) p ≡ Ok c → Put o p 8 (letter_bytes Pan1 ++ bytes_of order 4 (section_size 76)) a o₁
       → Put o₁ a 76 (encode_pane order base) z o₂
-      → (Writtens.End z ≡ write_answer (whole (pan1 base) [] [] [] [] []) (length o) p) × (o₂ ≡ write_output order (whole (pan1 base) [] [] [] [] []) o p)
+      → (Ok z ≡ write_answer (whole (pan1 base) [] [] [] [] []) (length o) p) × (o₂ ≡ write_output order (whole (pan1 base) [] [] [] [] []) o p)
   unfolding encode_body padding
-  pan1_written e header body = written order (whole (pan1 base) [] [] [] [] []) 76 0 r e c h refl refl header body (put_none _ _)
+  pan1_written e header body = written order (whole (pan1 base) [] [] [] [] []) 76 0 c e refl refl header body (put_none _ _)
 
-  pub ali1_written : (own : AlignmentPane) → r ≡ write_checked (whole (ali1 base own) [] [] [] [] []) (length o) p → Put o p 8 (letter_bytes Ali1 ++ bytes_of order 4 (section_size 88)) a o₁
+  pub ali1_written : (own : AlignmentPane) → write_checked (whole (ali1 base own) [] [] [] [] []) (length o) p ≡ Ok c → Put o p 8 (letter_bytes Ali1 ++ bytes_of order 4 (section_size 88)) a o₁
       → Put o₁ a 88 (alignment.encode_body order base own) z o₂
-      → (Writtens.End z ≡ write_answer (whole (ali1 base own) [] [] [] [] []) (length o) p) × (o₂ ≡ write_output order (whole (ali1 base own) [] [] [] [] []) o p)
+      → (Ok z ≡ write_answer (whole (ali1 base own) [] [] [] [] []) (length o) p) × (o₂ ≡ write_output order (whole (ali1 base own) [] [] [] [] []) o p)
   unfolding encode_body padding
-  ali1_written own e header body = written order (whole (ali1 base own) [] [] [] [] []) 88 0 r e c h refl refl header body (put_none _ _)
+  ali1_written own e header body = written order (whole (ali1 base own) [] [] [] [] []) 88 0 c e refl refl header body (put_none _ _)
 
-module _ (order : ByteOrder) (base : Pane) {o o₁ o₂ o₃ : List ℕ} {p a b z : ℕ} (m y : ℕ) (r : Place) (c : Cursor) (h : r ≡ At c) (g : y ≡ padding m) (zeros : Put o₂ b y (replicate y 0) z o₃) where
-  pub pic1_written : (own : PicturePane) (quads : List ℕ) → r ≡ write_checked (whole (pic1 base own) quads [] [] [] []) (length o) p → m ≡ picture.body_length own quads
+module _ (order : ByteOrder) (base : Pane) {o o₁ o₂ o₃ : List ℕ} {p a b z : ℕ} (m y : ℕ) (c : Cursor) (g : y ≡ padding m) (zeros : Put o₂ b y (replicate y 0) z o₃) where
+  pub pic1_written : (own : PicturePane) (quads : List ℕ) → write_checked (whole (pic1 base own) quads [] [] [] []) (length o) p ≡ Ok c → m ≡ picture.body_length own quads
       → Put o p 8 (letter_bytes Pic1 ++ bytes_of order 4 (section_size m)) a o₁ → Put o₁ a (picture.body_length own quads) (picture.encode_body order base own quads) b o₂
-      → (Writtens.End z ≡ write_answer (whole (pic1 base own) quads [] [] [] []) (length o) p) × (o₃ ≡ write_output order (whole (pic1 base own) quads [] [] [] []) o p)
+      → (Ok z ≡ write_answer (whole (pic1 base own) quads [] [] [] []) (length o) p) × (o₃ ≡ write_output order (whole (pic1 base own) quads [] [] [] []) o p)
   unfolding encode_body
-  pic1_written own quads e f header body = written order (whole (pic1 base own) quads [] [] [] []) m y r e c h f g header body zeros
+  pic1_written own quads e f header body = written order (whole (pic1 base own) quads [] [] [] []) m y c e f g header body zeros
 
-  pub wnd1_written : (own : WindowPane) (quads frames : List ℕ) → r ≡ write_checked (whole (wnd1 base own) quads [] [] frames []) (length o) p → m ≡ window.body_length (p + 8) quads frames
+  pub wnd1_written : (own : WindowPane) (quads frames : List ℕ) → write_checked (whole (wnd1 base own) quads [] [] frames []) (length o) p ≡ Ok c → m ≡ window.body_length (p + 8) quads frames
       → Put o p 8 (letter_bytes Wnd1 ++ bytes_of order 4 (section_size m)) a o₁ → Put o₁ (p + 8) (window.body_length (p + 8) quads frames) (window.encode_body order (p + 8) base own quads frames) b o₂
-      → (Writtens.End z ≡ write_answer (whole (wnd1 base own) quads [] [] frames []) (length o) p) × (o₃ ≡ write_output order (whole (wnd1 base own) quads [] [] frames []) o p)
+      → (Ok z ≡ write_answer (whole (wnd1 base own) quads [] [] frames []) (length o) p) × (o₃ ≡ write_output order (whole (wnd1 base own) quads [] [] frames []) o p)
   unfolding encode_body
-  wnd1_written own quads frames e f header body = written order (whole (wnd1 base own) quads [] [] frames []) m y r e c h f g header (put_at (sym header.place) body) zeros
+  wnd1_written own quads frames e f header body = written order (whole (wnd1 base own) quads [] [] frames []) m y c e f g header (put_at (sym header.place) body) zeros
 
-  pub txt1_written : (own : TextBoxPane) (units lines label : List ℕ) → r ≡ write_checked (whole (txt1 base own) [] units lines [] label) (length o) p → m ≡ 76 + text_box_length (p + 8) own units lines label
+  pub txt1_written : (own : TextBoxPane) (units lines label : List ℕ) → write_checked (whole (txt1 base own) [] units lines [] label) (length o) p ≡ Ok c → m ≡ 76 + text_box_length (p + 8) own units lines label
       → Put o p 8 (letter_bytes Txt1 ++ bytes_of order 4 (section_size m)) a o₁
       → Put o₁ (p + 8) (76 + text_box_length (p + 8) own units lines label) (text-box.encode_body order (p + 8) base own units lines label) b o₂
-      → (Writtens.End z ≡ write_answer (whole (txt1 base own) [] units lines [] label) (length o) p) × (o₃ ≡ write_output order (whole (txt1 base own) [] units lines [] label) o p)
+      → (Ok z ≡ write_answer (whole (txt1 base own) [] units lines [] label) (length o) p) × (o₃ ≡ write_output order (whole (txt1 base own) [] units lines [] label) o p)
   unfolding encode_body
-  txt1_written own units lines label e f header body = written order (whole (txt1 base own) [] units lines [] label) m y r e c h f g header (put_at (sym header.place) body) zeros
+  txt1_written own units lines label e f header body = written order (whole (txt1 base own) [] units lines [] label) m y c e f g header (put_at (sym header.place) body) zeros
 
 -- ---- what a kind lacks is not looked at
 

@@ -1,12 +1,9 @@
 -- A section write: what it answers, and the output after it.
-use Rattle.std.specs.Prelude.{ℕ, ◌+◌, List, ◌++◌, length, replicate}
+use Rattle.std.specs.Prelude.{ℕ, ◌+◌, List, ◌++◌, length, replicate, Ok}
 use Rattle.core_read.specs.Bytes.{bytes_of, padding, splice}
-use Rattle.core_read.specs.Taken.{start}
-use Rattle.core_checks.specs.Checks.{length_checked, section_checked, end_checked, unless_refused, written_of}
+use Rattle.core_read.specs.Taken.{start, Place}
+use Rattle.core_checks.specs.Checks.{length_checked, section_checked, end_checked, unless_refused, written_of, Written}
 use Rattle.core_read.specs.declared.cursor.ByteOrder.{ByteOrder}
-use Rattle.core_read.specs.declared.cursor.Place.{Place}
-use Rattle.core_read.specs.declared.cursor.Place.TheVariants.{At}
-use Rattle.core_checks.specs.declared.checks.Written.{Written}
 use Rattle.pane_read.specs.Pane.{encode_pane}
 use Rattle.pane_checks.specs.Checks.{names_checked, reserve_checked}
 use Rattle.picture_fields.specs.Picture.{picture_checked}
@@ -84,7 +81,7 @@ own_checked Ali1 p w = p
 unfoldable pub write_checked : Whole → ℕ → ℕ → Place
 write_checked w n p =
     let k : Kind = w.pane.kind in
-    let p1 : Place = length_checked (At (start p)) n in
+    let p1 : Place = length_checked (Ok (start p)) n in
     let p2 : Place = own_length_checked k p1 w.pane w.label in
     let p3 : Place = section_checked p2 n p in
     let p4 : Place = names_checked p3 w.pane.base in

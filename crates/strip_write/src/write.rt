@@ -2,6 +2,7 @@
 ghost use Rattle.std.specs.Prelude.{[], ◌++◌, ◌≡◌, ◌+◌, ◌^◌, ◌≤◌, ◌<◌, length};
 ghost use Rattle.core_read.specs.Bytes.{bytes_of, Room, Put};
 ghost use Rattle.core_read.specs.Taken.{start};
+ghost use Rattle.core_checks.specs.Answered.{Clears, Lets};
 ghost use Rattle.core_checks.specs.Checks.{length_checked, section_checked, section_start, end_checked, written_by_number};
 ghost use Rattle.pane_checks.specs.Checks.{names_checked, reserve_checked};
 ghost use Rattle.text_box_parts.specs.Parts.{label_part};
@@ -12,15 +13,15 @@ ghost use Rattle.strip_write.specs.Write.{section_size, write_answer, write_outp
 
 use alignment::AlignmentPane;
 use core_checks::checks;
-use core_checks::checks::Written;
-use core_read::cursor::{ByteOrder, Cursor, Place};
+use core_read::cursor::ByteOrder;
+use core_read::error::Refusal;
 use core_write::writer;
 use pane::Pane;
 use pane_checks::checks::{names_checked, reserve_checked};
 use picture::PicturePane;
 use strip_records::kind::Kind;
 use strip_records::record::Record;
-use text_box::{Label, TextBoxPane};
+use text_box::{Span, TextBoxPane};
 use text_box_checks::{label_length_checked, label_name_checked};
 use window::WindowPane;
 
@@ -33,33 +34,41 @@ fn section_size(n: usize) -> usize
 }
 
 // 1, 2, 9 of the names, and 10.
-fn base_checked(base: Pane, length: usize, place: usize) -> Place
-    ensures { result ≡ reserve_checked (names_checked (section_start length place) base) base }
+#[tactic(auto, using(core_checks::proofs::Checked::section_started), unfolding(pane_checks::specs::Checks::names_checked, pane_checks::specs::Checks::reserve_checked, core_read::specs::Taken::stop_if))]
+fn base_checked(base: Pane, length: usize, place: usize) -> Result<(), Refusal>
+    ensures { Clears result (reserve_checked (names_checked (section_start length place) base) base) place }
 {
-    let p = checks::section_start(length, place);
-    let p = names_checked(p, base);
-    reserve_checked(p, base)
+    checks::section_start(length, place)?;
+    names_checked(base)?;
+    reserve_checked(base)
 }
 
 // The same, with 1 and 9 of a label.
-fn labelled_checked(base: Pane, label: Label, bytes: &[u8], length: usize, place: usize) -> Place
-    ensures { result ≡ reserve_checked (label_name_checked (names_checked (section_checked (label_length_checked (length_checked (Place.At (start place)) length) (label_part label bytes.now)) length place) base) (label_part label bytes.now)) base }
+#[tactic(auto, using(text_box_checks::proofs::Stays::label_length_stays), unfolding(core_checks::specs::Checks::section_checked, pane_checks::specs::Checks::names_checked, text_box_checks::specs::Checks::label_name_checked, pane_checks::specs::Checks::reserve_checked, core_read::specs::Taken::stop_if))]
+fn labelled_checked(
+    base: Pane,
+    label: Option<Span>,
+    bytes: &[u8],
+    length: usize,
+    place: usize,
+) -> Result<(), Refusal>
+    ensures { Clears result (reserve_checked (label_name_checked (names_checked (section_checked (label_length_checked (length_checked (Ok (start place)) length) (label_part label bytes.now)) length place) base) (label_part label bytes.now)) base) place }
 {
-    let p = checks::length_checked(Place::At(Cursor::start(place)), length);
-    let p = label_length_checked(p, label, bytes);
-    let p = checks::section_checked(p, length, place);
-    let p = names_checked(p, base);
-    let p = label_name_checked(p, label, bytes);
-    reserve_checked(p, base)
+    checks::length_checked(length)?;
+    label_length_checked(label, bytes)?;
+    checks::section_checked(length, place)?;
+    names_checked(base)?;
+    label_name_checked(label, bytes)?;
+    reserve_checked(base)
 }
 
 // 16, of a section with a body of n bytes.
-fn end_checked(p: Place, n: usize, length: usize, place: usize) -> Place
-    requires { (n < 2 ^ 31) × ((c : Cursor) → p ≡ Place.At c → place ≤ 16777216) }
-    ensures { result ≡ end_checked p (place + section_size n) length }
+#[tactic(auto, using(crate::proofs::Cleared::size_bound))]
+fn end_checked(n: usize, length: usize, place: usize) -> Result<(), Refusal>
+    requires { (n < 2 ^ 31) × (place ≤ 16777216) }
+    ensures { Lets result (λ p. end_checked p (place + section_size n) length) }
 {
-    let size = section_size(n);
-    checks::end_checked(p, place, size, length)
+    checks::end_checked(place, section_size(n), length)
 }
 
 // Letters and size of a section with a body of n bytes.
@@ -76,24 +85,25 @@ fn put_header(order: ByteOrder, out: &mut [u8], p: usize, kind: Kind, n: usize) 
 // ---- the section at a place, by kind. A refusal leaves the output as it was; an accepted write answers its end, and changes no byte but its own.
 
 // A base pane: checks 1, 2, 9, 10 and 16.
-pub fn write_pan1(order: ByteOrder, base: Pane, out: &mut [u8], place: usize) -> Written
+#[tactic(auto, unfolding(crate::specs::Write::write_answer, crate::specs::Write::write_output, crate::specs::Write::write_checked, crate::specs::Write::own_length_checked, crate::specs::Write::own_name_checked, crate::specs::Write::own_checked, core_checks::specs::Checks::written_of, core_checks::specs::Checks::unless_refused, core_checks::specs::Checks::section_start, core_checks::specs::Checks::end_checked, core_read::specs::Taken::stop_if))]
+pub fn write_pan1(
+    order: ByteOrder,
+    base: Pane,
+    out: &mut [u8],
+    place: usize,
+) -> Result<usize, Refusal>
     ensures value { result ≡ write_answer (whole (pan1 base) [] [] [] [] []) (length out.old) place }
     ensures out_after { out.new ≡ write_output order (whole (pan1 base) [] [] [] [] []) out.old place }
 {
     let length = out.len();
-    let p = base_checked(base, length, place);
-    let p = end_checked(p, 76, length, place);
-    match p {
-        Place::Refused(why) => Written::Refused(why),
-        Place::At(_) => {
-            let q = put_header(order, out, place, Kind::Pan1, 76);
-            let end = pane::put_pane(order, out, q, base);
-            Written::End(end)
-        }
-    }
+    base_checked(base, length, place)?;
+    end_checked(76, length, place)?;
+    let q = put_header(order, out, place, Kind::Pan1, 76);
+    Ok(pane::put_pane(order, out, q, base))
 }
 
 // A picture pane: checks 1, 2, 9, 10, 11 and 16.
+#[tactic(auto, unfolding(crate::specs::Write::write_answer, crate::specs::Write::write_output, crate::specs::Write::write_checked, crate::specs::Write::own_length_checked, crate::specs::Write::own_name_checked, crate::specs::Write::own_checked, core_checks::specs::Checks::written_of, core_checks::specs::Checks::unless_refused, core_checks::specs::Checks::section_start, core_checks::specs::Checks::end_checked, picture_fields::specs::Picture::picture_checked, core_checks::specs::Checks::count_checked, core_read::specs::Taken::stop_if))]
 pub fn write_pic1(
     order: ByteOrder,
     base: Pane,
@@ -101,33 +111,23 @@ pub fn write_pic1(
     quads: &[u32],
     out: &mut [u8],
     place: usize,
-) -> Written
+) -> Result<usize, Refusal>
     ensures value { result ≡ write_answer (whole (pic1 base own) quads.now [] [] [] []) (length out.old) place }
     ensures out_after { out.new ≡ write_output order (whole (pic1 base own) quads.now [] [] [] []) out.old place }
 {
     let length = out.len();
-    let p = base_checked(base, length, place);
-    let p = picture_fields::picture_checked(p, quads);
-    match p {
-        Place::Refused(why) => Written::Refused(why),
-        Place::At(_) => {
-            let n = picture::body::body_length(own, quads);
-            let p = end_checked(p, n, length, place);
-            match p {
-                Place::Refused(why) => Written::Refused(why),
-                Place::At(_) => {
-                    let zeros = writer::padding_at(n);
-                    let q = put_header(order, out, place, Kind::Pic1, n);
-                    let q = picture::body::put_body(order, out, q, base, own, quads);
-                    let end = writer::put_zeros(out, q, zeros);
-                    Written::End(end)
-                }
-            }
-        }
-    }
+    base_checked(base, length, place)?;
+    picture_fields::picture_checked(quads)?;
+    let n = picture::body::body_length(own, quads);
+    end_checked(n, length, place)?;
+    let zeros = writer::padding_at(n);
+    let q = put_header(order, out, place, Kind::Pic1, n);
+    let q = picture::body::put_body(order, out, q, base, own, quads);
+    Ok(writer::put_zeros(out, q, zeros))
 }
 
 // A text box: checks 1, 2, 9, 10, 11, 13, 14, 15 and 16.
+#[tactic(auto, using(text_box_checks::proofs::Stays::text_box_stays), unfolding(crate::specs::Write::write_answer, crate::specs::Write::write_output, crate::specs::Write::write_checked, crate::specs::Write::own_length_checked, crate::specs::Write::own_name_checked, crate::specs::Write::own_checked, core_checks::specs::Checks::written_of, core_checks::specs::Checks::unless_refused, core_checks::specs::Checks::end_checked, core_read::specs::Taken::stop_if))]
 pub fn write_txt1(
     order: ByteOrder,
     base: Pane,
@@ -137,38 +137,25 @@ pub fn write_txt1(
     label: &[u8],
     out: &mut [u8],
     place: usize,
-) -> Written
+) -> Result<usize, Refusal>
     ensures value { result ≡ write_answer (whole (txt1 base own) [] units.now lines.now [] label.now) (length out.old) place }
     ensures out_after { out.new ≡ write_output order (whole (txt1 base own) [] units.now lines.now [] label.now) out.old place }
 {
     text_box_read::typed_text_box(own);
     let length = out.len();
-    let name = own.label;
-    let p = labelled_checked(base, name, label, length, place);
-    let p = text_box_checks::text_box_checked(p, own, units, lines);
-    match p {
-        Place::Refused(why) => Written::Refused(why),
-        Place::At(_) => {
-            let body = place + 8;
-            let n = 76 + text_box_write::write::text_box_length(body, own, units, lines, label);
-            let p = end_checked(p, n, length, place);
-            match p {
-                Place::Refused(why) => Written::Refused(why),
-                Place::At(_) => {
-                    let zeros = writer::padding_at(n);
-                    put_header(order, out, place, Kind::Txt1, n);
-                    let q = text_box::body::put_body(
-                        order, out, body, base, own, units, lines, label,
-                    );
-                    let end = writer::put_zeros(out, q, zeros);
-                    Written::End(end)
-                }
-            }
-        }
-    }
+    labelled_checked(base, own.label, label, length, place)?;
+    text_box_checks::text_box_checked(own, units, lines)?;
+    let body = place + 8;
+    let n = 76 + text_box_write::write::text_box_length(body, own, units, lines, label);
+    end_checked(n, length, place)?;
+    let zeros = writer::padding_at(n);
+    put_header(order, out, place, Kind::Txt1, n);
+    let q = text_box::body::put_body(order, out, body, base, own, units, lines, label);
+    Ok(writer::put_zeros(out, q, zeros))
 }
 
 // A window pane: checks 1, 2, 9, 10, 11, 12 and 16.
+#[tactic(auto, using(window_write::proofs::Puts::window_stays), unfolding(crate::specs::Write::write_answer, crate::specs::Write::write_output, crate::specs::Write::write_checked, crate::specs::Write::own_length_checked, crate::specs::Write::own_name_checked, crate::specs::Write::own_checked, core_checks::specs::Checks::written_of, core_checks::specs::Checks::unless_refused, core_checks::specs::Checks::section_start, core_checks::specs::Checks::end_checked, window::specs::Body::body_length, core_read::specs::Taken::stop_if))]
 pub fn write_wnd1(
     order: ByteOrder,
     base: Pane,
@@ -177,55 +164,39 @@ pub fn write_wnd1(
     frames: &[u16],
     out: &mut [u8],
     place: usize,
-) -> Written
+) -> Result<usize, Refusal>
     ensures value { result ≡ write_answer (whole (wnd1 base own) quads.now [] [] frames.now []) (length out.old) place }
     ensures out_after { out.new ≡ write_output order (whole (wnd1 base own) quads.now [] [] frames.now []) out.old place }
 {
     let length = out.len();
-    let p = base_checked(base, length, place);
-    let p = window_write::write::window_checked(p, quads, frames);
-    match p {
-        Place::Refused(why) => Written::Refused(why),
-        Place::At(_) => {
-            let body = place + 8;
-            let n = 76 + window_write::write::window_length(body, quads.len(), frames.len());
-            let p = end_checked(p, n, length, place);
-            match p {
-                Place::Refused(why) => Written::Refused(why),
-                Place::At(_) => {
-                    let zeros = writer::padding_at(n);
-                    put_header(order, out, place, Kind::Wnd1, n);
-                    let q = window::body::put_body(order, out, body, base, own, quads, frames);
-                    let end = writer::put_zeros(out, q, zeros);
-                    Written::End(end)
-                }
-            }
-        }
-    }
+    base_checked(base, length, place)?;
+    window_write::write::window_checked(quads, frames)?;
+    let body = place + 8;
+    let n = 76 + window_write::write::window_length(body, quads.len(), frames.len());
+    end_checked(n, length, place)?;
+    let zeros = writer::padding_at(n);
+    put_header(order, out, place, Kind::Wnd1, n);
+    let q = window::body::put_body(order, out, body, base, own, quads, frames);
+    Ok(writer::put_zeros(out, q, zeros))
 }
 
 // An alignment pane: checks 1, 2, 9, 10 and 16.
+#[tactic(auto, unfolding(crate::specs::Write::write_answer, crate::specs::Write::write_output, crate::specs::Write::write_checked, crate::specs::Write::own_length_checked, crate::specs::Write::own_name_checked, crate::specs::Write::own_checked, core_checks::specs::Checks::written_of, core_checks::specs::Checks::unless_refused, core_checks::specs::Checks::section_start, core_checks::specs::Checks::end_checked, core_read::specs::Taken::stop_if))]
 pub fn write_ali1(
     order: ByteOrder,
     base: Pane,
     own: AlignmentPane,
     out: &mut [u8],
     place: usize,
-) -> Written
+) -> Result<usize, Refusal>
     ensures value { result ≡ write_answer (whole (ali1 base own) [] [] [] [] []) (length out.old) place }
     ensures out_after { out.new ≡ write_output order (whole (ali1 base own) [] [] [] [] []) out.old place }
 {
     let length = out.len();
-    let p = base_checked(base, length, place);
-    let p = end_checked(p, 88, length, place);
-    match p {
-        Place::Refused(why) => Written::Refused(why),
-        Place::At(_) => {
-            let q = put_header(order, out, place, Kind::Ali1, 88);
-            let end = alignment::body::put_body(order, out, q, base, own);
-            Written::End(end)
-        }
-    }
+    base_checked(base, length, place)?;
+    end_checked(88, length, place)?;
+    let q = put_header(order, out, place, Kind::Ali1, 88);
+    Ok(alignment::body::put_body(order, out, q, base, own))
 }
 
 // The section of a record at a place: the write of its kind.
@@ -240,7 +211,7 @@ pub fn write_section(
     label: &[u8],
     out: &mut [u8],
     place: usize,
-) -> Written
+) -> Result<usize, Refusal>
     ensures value { result ≡ write_answer (whole r quads.now units.now lines.now frames.now label.now) (length out.old) place }
     ensures out_after { out.new ≡ write_output order (whole r quads.now units.now lines.now frames.now label.now) out.old place }
     ensures result_value { written_by_number result ≡ written_by_number (write_answer (whole r quads.now units.now lines.now frames.now label.now) (length out.old) place) }

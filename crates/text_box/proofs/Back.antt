@@ -10,12 +10,12 @@ use lib.Dec.{eqb}
 use borrow.Author.Tests.{ne_eqb}
 use Rattle.utf8.proofs.Tests.{and_none}
 use Rattle.core_read.specs.Bytes.{bytes_of, bytes_of_all, padding}
-use Rattle.core_read.specs.Taken.{Taken, start, advanced, moved, sought}
+use Rattle.core_read.specs.Taken.{start, advanced, moved, sought}
+use Rattle.core_read.specs.declared.cursor.Taken.{Taken}
 use Rattle.core_read.specs.Lists.{numbers_taken, numbers_at}
 use Rattle.core_checks.specs.Checks.{unless_refused}
 use Rattle.core_read.specs.declared.cursor.ByteOrder.{ByteOrder}
 use Rattle.core_read.specs.declared.cursor.Cursor.{Cursor}
-use Rattle.core_read.specs.declared.cursor.Place.TheVariants.{At}
 use Rattle.core_read.proofs.Numbers.{length_bytes}
 use Rattle.core_read.proofs.Cursors.{pos_start, pos_advanced, pos_moved, advanced_zero, advanced_more, reach_moved, reach_covers, reach_within}
 use Rattle.core_read.proofs.Runs.{seek_to}
@@ -24,17 +24,14 @@ use Rattle.core_read.proofs.Back.{Holds, split, holds_fits, length_all, number_b
 use Rattle.ui2d.proofs.Parts.{Fits, numbers_at_lem}
 use Rattle.text_box_parts.specs.declared.Text.{Text}
 use Rattle.text_box_parts.specs.declared.Text.TheVariants as text
-use Rattle.text_box_parts.specs.declared.Label.{Label}
-use Rattle.text_box_parts.specs.declared.Label.TheVariants as label
-use Rattle.text_box_parts.specs.declared.LineTable.{LineTable}
-use Rattle.text_box_parts.specs.declared.LineTable.TheVariants as lines
 use Rattle.text_box_parts.specs.declared.parts.TextTaken.{TextTaken}
 use Rattle.text_box_parts.specs.declared.parts.LabelTaken.{LabelTaken}
 use Rattle.text_box_parts.specs.declared.parts.LinesTaken.{LinesTaken}
-use Rattle.text_box_parts.specs.Parts.{place_of, Part, absent, present, text_at, text_taken, label_at, label_taken, lines_at, lines_taken, column}
+use Rattle.text_box_parts.specs.Parts.{place_of, Part, absent, present, text_at, text_taken, label_at, label_taken, lines_at, lines_taken, column, Label, LineTable}
 use Rattle.text_box_write.specs.Written.{text_offset, part_offset, text_width, label_width, line_width, encode_text, encode_label, encode_lines}
 use Rattle.text_box_write.proofs.Columns.{length_column}
 use Rattle.text_box.proofs.Cleared.{GoodText, GoodLabel, GoodLines}
+use Rattle.std.specs.Prelude.{None, Ok, Some}
 
 -- ---- numbers of a list that fit w bytes each
 
@@ -62,12 +59,12 @@ text_place body (present u) = place_of body 168
 
 -- of a part that was aligned from a place
 abbrev pub read_label : ℕ → Part → Label
-read_label at absent = label.Absent
-read_label at (present bytes) = label.At (at + padding at) (length bytes)
+read_label at absent = None
+read_label at (present bytes) = Some (record { place = at + padding at; length = length bytes })
 
 abbrev pub read_table : Part → LineTable
-read_table absent = lines.Absent
-read_table (present l) = lines.Present (length l / 2)
+read_table absent = None
+read_table (present l) = Some (length l / 2)
 
 abbrev pub table_place : ℕ → Part → ℕ
 table_place at absent = 0
@@ -145,7 +142,7 @@ module _ (s : List ℕ) where
 
   -- n numbers where they were put
   numbers_from : (order : ByteOrder) (w : ℕ) (d : Cursor) (l : List ℕ) → Fits w l → Holds s d.pos (bytes_of_all order w l)
-      → ◌≡◌ {A = Taken (List ℕ)} (numbers_taken order w (length l) s (At d)) (record { value = l; then = At (advanced d (w * length l)) })
+      → ◌≡◌ {A = Taken (List ℕ)} (numbers_taken order w (length l) s (Ok d)) (record { value = l; then = Ok (advanced d (w * length l)) })
   numbers_from order w d l f a =
       let b : Holds s (d.pos + 0) (bytes_of_all order w l) = rw add-zero a in
       let z : 0 + w * length l ≡ w * length l = omega arith in
@@ -153,9 +150,9 @@ module _ (s : List ℕ) where
 
   -- a column of n of them
   pub table_column : (order : ByteOrder) (d : Cursor) (l : List ℕ) (k n : ℕ) → Below 4 l → Holds s d.pos (bytes_of_all order 4 (column l k n))
-      → ◌≡◌ {A = Taken (List ℕ)} (numbers_taken order 4 n s (At d)) (record { value = column l k n; then = At (advanced d (4 * n)) })
+      → ◌≡◌ {A = Taken (List ℕ)} (numbers_taken order 4 n s (Ok d)) (record { value = column l k n; then = Ok (advanced d (4 * n)) })
   table_column order d l k n b a =
-      subst (λ (m : ℕ). ◌≡◌ {A = Taken (List ℕ)} (numbers_taken order 4 m s (At d)) (record { value = column l k n; then = At (advanced d (4 * m)) }))
+      subst (λ (m : ℕ). ◌≡◌ {A = Taken (List ℕ)} (numbers_taken order 4 m s (Ok d)) (record { value = column l k n; then = Ok (advanced d (4 * m)) }))
       (length_column l k n) (numbers_from order 4 d (column l k n) (fits_column 4 l k n b) a)
 
   -- and so they stand there
@@ -168,12 +165,12 @@ module _ (s : List ℕ) where
 -- ---- each part, from any cursor d
 
 module _ (s : List ℕ) (order : ByteOrder) (body : ℕ) (d : Cursor) (low : 8 ≤ body) (fit : body + 160 ≤ length s) where
-  home : (a : Cursor) → sought s (At a) (body + 160) ≡ At (moved a (body + 160))
+  home : (a : Cursor) → sought s (Ok a) (body + 160) ≡ Ok (moved a (body + 160))
   home a = seek_to s a (body + 160) (body + 160) refl fit
 
   pub text_back : (long : ℕ) (found : Part) → GoodText long found → Bounded 2 found → Holds s (place_of body 168) (encode_text order found)
-      → ◌≡◌ {A = TextTaken} (text_taken order s (At d) body (text_offset found) long)
-      (record { text = read_text found; place = text_place body found; then = At (after_text body d found) })
+      → ◌≡◌ {A = TextTaken} (text_taken order s (Ok d) body (text_offset found) long)
+      (record { text = read_text found; place = text_place body found; then = Ok (after_text body d found) })
   unfolding text_taken text_at unless_refused
   text_back long absent g b h = refl
   text_back long (present u) g b h =
@@ -187,7 +184,7 @@ module _ (s : List ℕ) (order : ByteOrder) (body : ℕ) (d : Cursor) (low : 8 �
       )
 
   module _ (at end : ℕ) (w : at ≡ place_of body end) (pos : 0 < end) where
-    go : at + padding at ≤ length s → sought s (At d) (place_of body (end + padding at)) ≡ At (moved d (at + padding at))
+    go : at + padding at ≤ length s → sought s (Ok d) (place_of body (end + padding at)) ≡ Ok (moved d (at + padding at))
     go h = seek_to s d (place_of body (end + padding at)) (at + padding at) (omega arith) h
 
     moves : place_of body (end + padding at) ≡ at + padding at
@@ -197,7 +194,7 @@ module _ (s : List ℕ) (order : ByteOrder) (body : ℕ) (d : Cursor) (low : 8 �
     some = ne_eqb (end + padding at) 0 (λ z. omega arith)
 
     pub label_read : (name : Part) → GoodLabel name → Holds s at (encode_label at name)
-        → ◌≡◌ {A = LabelTaken} (label_taken s (At d) body (part_offset at end name)) (record { label = read_label at name; then = At (after_label body d at name) })
+        → ◌≡◌ {A = LabelTaken} (label_taken s (Ok d) body (part_offset at end name)) (record { label = read_label at name; then = Ok (after_label body d at name) })
     unfolding label_taken label_at
     label_read absent g h = refl
     label_read (present bytes) g h =
@@ -212,8 +209,8 @@ module _ (s : List ℕ) (order : ByteOrder) (body : ℕ) (d : Cursor) (low : 8 �
         )
 
     pub lines_read : (line : Bool) (table : Part) → GoodLines table → Set table line → Bounded 4 table → Holds s at (encode_lines order at table)
-        → ◌≡◌ {A = LinesTaken} (lines_taken order s (At d) body line (part_offset at end table))
-        (record { line_table = read_table table; place = table_place at table; then = At (after_lines body d at table) })
+        → ◌≡◌ {A = LinesTaken} (lines_taken order s (Ok d) body line (part_offset at end table))
+        (record { line_table = read_table table; place = table_place at table; then = Ok (after_lines body d at table) })
     unfolding lines_taken lines_at
     lines_read line absent g b f h = rw (and_none line)
     lines_read line (present l) g b f h =

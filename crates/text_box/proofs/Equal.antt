@@ -10,20 +10,16 @@ use Rattle.core_read.specs.Taken.{advanced}
 use Rattle.core_read.specs.Lists.{numbers_at}
 use Rattle.core_read.specs.declared.cursor.ByteOrder.{ByteOrder}
 use Rattle.core_read.specs.declared.cursor.Cursor.{Cursor}
-use Rattle.core_read.specs.declared.cursor.Place.TheVariants.{At}
 use Rattle.core_read.proofs.Numbers.{length_bytes}
 use Rattle.core_read.proofs.Cursors.{pos_advanced, reach_level}
 use Rattle.core_read.proofs.Runs.{passed}
 use Rattle.core_read.proofs.Back.{Holds, split, holds_left, holds_fits, holds_part, length_all}
 use Rattle.utf8.specs.Utf8.{well_formed}
-use Rattle.text_box_parts.specs.declared.Label.TheVariants as label
-use Rattle.text_box_parts.specs.declared.LineTable.{LineTable}
-use Rattle.text_box_parts.specs.declared.LineTable.TheVariants as lines
 use Rattle.text_box_parts.specs.declared.Text.{Text}
 use Rattle.text_box_parts.specs.declared.Text.TheVariants as text
 use Rattle.text_box_read.specs.declared.TextBoxPane.{TextBoxPane}
 use Rattle.text_box_read.specs.declared.TextBoxTaken.{TextBoxTaken}
-use Rattle.text_box_parts.specs.Parts.{place_of, Part, absent, present, text_part, label_part, line_part, column, units_of, lines_of}
+use Rattle.text_box_parts.specs.Parts.{place_of, Part, absent, present, text_part, label_part, line_part, column, units_of, lines_of, LineTable}
 use Rattle.text_box_read.specs.TextBox.{text_box_units, text_box_lines}
 use Rattle.text_box_read.specs.TextBox.{text_box_taken}
 use Rattle.text_box_write.specs.Written.{text_end, label_end, encode_text, encode_label, encode_lines, encode_text_box, text_box_length}
@@ -36,6 +32,7 @@ use Rattle.text_box_write.proofs.Columns.{length_column, lines_back}
 use Rattle.text_box.proofs.Cleared.{GoodText, GoodLabel, GoodLines, GoodBit, GoodTextBox}
 use Rattle.text_box.proofs.Back.{Below, Bounded, Set, fits, fits_column, numbers_stand, read_text, text_place, read_label, read_table, table_place}
 use Rattle.text_box.proofs.Whole.{parts_taken, after_parts, pos_parts, reach_parts, parts_read, the_text, the_label, the_lines}
+use Rattle.std.specs.Prelude.{None, Ok, Some}
 
 -- ---- each part as it stands in the bytes
 
@@ -73,16 +70,16 @@ module _ (s : List ℕ) (order : ByteOrder) where
 -- ---- THE WHOLE
 
 set_bit : (table : LineTable) (l : List ℕ) (line : Bool) → GoodBit table line → Set (line_part table l) line
-set_bit lines.Absent l line g = tt
-set_bit (lines.Present count) l line g = g
+set_bit None l line g = tt
+set_bit (Some count) l line g = g
 
 bounded_text : (t : Text) (units : List ℕ) → Below 2 units → Bounded 2 (text_part t units)
 bounded_text text.Absent units b = tt
 bounded_text text.Present units b = b
 
 bounded_lines : (t : LineTable) (l : List ℕ) → Below 4 l → Bounded 4 (line_part t l)
-bounded_lines lines.Absent l b = tt
-bounded_lines (lines.Present count) l b = b
+bounded_lines None l b = tt
+bounded_lines (Some count) l b = b
 
 -- what reading a text box that was written at B gives
 unfoldable pub read_back : ℕ → Cursor → TextBoxPane → List ℕ → List ℕ → List ℕ → TextBoxTaken
@@ -93,7 +90,7 @@ unfoldable pub after_box : ℕ → Cursor → TextBoxPane → List ℕ → List 
 after_box body c x units lines label = after_parts body (advanced c 84) (text_part x.text units) (label_part x.label label) (line_part x.line_table lines)
 
 module _ (body : ℕ) (c : Cursor) (x : TextBoxPane) (units lines label : List ℕ) where
-  pub then_back : (read_back body c x units lines label).then ≡ At (after_box body c x units lines label)
+  pub then_back : (read_back body c x units lines label).then ≡ Ok (after_box body c x units lines label)
   unfolding read_back after_box
   then_back = refl
 
@@ -110,7 +107,7 @@ module _ (body : ℕ) (c : Cursor) (x : TextBoxPane) (units lines label : List �
 module _ (s : List ℕ) (c : Cursor) (order : ByteOrder) (body : ℕ) (here : c.pos ≡ body + 76) (low : 8 ≤ body) (x : TextBoxPane) (units lines label : List ℕ)
     (t : TypedTextBox x) (g : GoodTextBox x units lines label) (bu : Below 2 units) (bl : Below 4 lines)
     (a : Holds s c.pos (encode_text_box order body x units lines label)) where
-  pub text_box_back : text_box_taken order s (At c) body ≡ read_back body c x units lines label
+  pub text_box_back : text_box_taken order s (Ok c) body ≡ read_back body c x units lines label
   unfolding encode_text_box read_back
   text_box_back =
       parts_read s c order body here low x t (text_part x.text units) (label_part x.label label) (line_part x.line_table lines)
@@ -162,16 +159,16 @@ module _ (s : List ℕ) (c : Cursor) (order : ByteOrder) (body : ℕ) (here : c.
 
 -- 7 lets the label through that was read
 label_formed : (s : List ℕ) (d : Cursor) (at : ℕ) (name : Part) → GoodLabel name → label_part (read_label at name) (label_of s (read_label at name)) ≡ name
-    → label_checked (At d) s (read_label at name) ≡ At d
+    → label_checked (Ok d) s (read_label at name) ≡ Ok d
 unfolding label_checked
 label_formed s d at absent g e = refl
 label_formed s d at (present b) g e =
-    let f : label_of s (label.At (at + padding at) (length b)) ≡ b = cc in
+    let f : label_of s (Some (record { place = at + padding at; length = length b })) ≡ b = cc in
     passed d _ _ (ap (λ (l : List ℕ). not (well_formed l)) f ∙ ap not g.1)
 
 pub label_passes : (s : List ℕ) (c d : Cursor) (order : ByteOrder) (body : ℕ) → c.pos ≡ body + 76 → 8 ≤ body → (x : TextBoxPane) (units lines label : List ℕ)
     → TypedTextBox x → GoodTextBox x units lines label → Below 2 units → Below 4 lines → Holds s c.pos (encode_text_box order body x units lines label)
-    → label_checked (At d) s (read_back body c x units lines label).text_box.label ≡ At d
+    → label_checked (Ok d) s (read_back body c x units lines label).text_box.label ≡ Ok d
 unfolding read_back
 label_passes s c d order body here low x units lines label t g bu bl a =
     label_formed s d (place_of body (text_end (text_part x.text units))) (label_part x.label label) g.name

@@ -7,7 +7,6 @@ use lib.ListN.{length, length-append}
 use Rattle.core_read.specs.Taken.{advanced}
 use Rattle.core_read.specs.declared.cursor.ByteOrder.{ByteOrder}
 use Rattle.core_read.specs.declared.cursor.Cursor.{Cursor}
-use Rattle.core_read.specs.declared.cursor.Place.TheVariants.{At}
 use Rattle.core_read.proofs.Numbers.{length_bytes}
 use Rattle.core_read.proofs.Back.{Holds, cut, number_at_lem}
 use Rattle.flags.specs.Enums.{alignment_number}
@@ -24,6 +23,7 @@ use Rattle.text_box_read.specs.declared.TextBoxPane.{TextBoxPane}
 use Rattle.text_box_fixed.specs.declared.fixed.HeadTaken.{HeadTaken}
 use Rattle.text_box_fixed.specs.declared.fixed.FontTaken.{FontTaken}
 use Rattle.text_box_fixed.specs.declared.fixed.ShadowTaken.{ShadowTaken}
+use Rattle.std.specs.Prelude.{Ok}
 
 -- ---- lengths
 
@@ -64,7 +64,7 @@ head_back x d = record {
   text_alignment = x.text_alignment;
   word = record { flags = x.text_flags; measure = measure_kind x.font_measure };
   italic_tilt = x.italic_tilt;
-  then = At d;
+  then = Ok d;
 }
 
 abbrev pub font_back : TextBoxPane → ℕ → ℕ → Cursor → FontTaken
@@ -76,7 +76,7 @@ font_back x t l d = record {
   character_space = x.character_space;
   line_space = x.line_space;
   label_offset = l;
-  then = At d;
+  then = Ok d;
 }
 
 abbrev pub shadow_back : TextBoxPane → ℕ → Cursor → ShadowTaken
@@ -88,18 +88,18 @@ shadow_back x n d = record {
   italic_tilt = x.shadow_italic_tilt;
   line_offset = n;
   per_character_offset = 0;
-  then = At d;
+  then = Ok d;
 }
 
 -- the three chunks one after the other
 pub record FixedBack (s : List ℕ) (c : Cursor) (order : ByteOrder) (x : TextBoxPane) (f l n : ℕ) : Type 0 where
-  pub head : head_taken order s (At (advanced c 0)) ≡ head_back x (advanced c 16)
-  pub font : font_taken order s (At (advanced c 16)) ≡ font_back x f l (advanced c 48)
-  pub shadow : shadow_taken order s (At (advanced c 48)) ≡ shadow_back x n (advanced c 84)
+  pub head : head_taken order s (Ok (advanced c 0)) ≡ head_back x (advanced c 16)
+  pub font : font_taken order s (Ok (advanced c 16)) ≡ font_back x f l (advanced c 48)
+  pub shadow : shadow_taken order s (Ok (advanced c 48)) ≡ shadow_back x n (advanced c 84)
 
 module _ {s : List ℕ} (c : Cursor) (order : ByteOrder) (x : TextBoxPane) (t : TypedTextBox x) where
   head_back_lem : Holds s (c.pos + 0) (encode_indices order x) → Holds s (c.pos + 8) (encode_style order x)
-      → head_taken order s (At (advanced c 0)) ≡ head_back x (advanced c 16)
+      → head_taken order s (Ok (advanced c 0)) ≡ head_back x (advanced c 16)
   unfolding encode_indices encode_style head_taken
   head_back_lem a b =
       let (a₁, r₁) = cut c 0 2 _ _ (length_bytes order 2 x.text_buffer_size) a in
@@ -123,7 +123,7 @@ module _ {s : List ℕ} (c : Cursor) (order : ByteOrder) (x : TextBoxPane) (t : 
       )
 
   font_back_lem : (f l : ℕ) → f < 256 ^ 4 → l < 256 ^ 4 → Holds s (c.pos + 16) (encode_font order x f l)
-      → font_taken order s (At (advanced c 16)) ≡ font_back x f l (advanced c 48)
+      → font_taken order s (Ok (advanced c 16)) ≡ font_back x f l (advanced c 48)
   unfolding encode_font font_taken
   font_back_lem f l hf hl a =
       let (a₁, r₁) = cut c 16 4 _ _ (length_bytes order 4 f) a in
@@ -143,7 +143,7 @@ module _ {s : List ℕ} (c : Cursor) (order : ByteOrder) (x : TextBoxPane) (t : 
       )
 
   shadow_back_lem : (n : ℕ) → n < 256 ^ 4 → Holds s (c.pos + 48) (encode_shadow order x n)
-      → shadow_taken order s (At (advanced c 48)) ≡ shadow_back x n (advanced c 84)
+      → shadow_taken order s (Ok (advanced c 48)) ≡ shadow_back x n (advanced c 84)
   unfolding encode_shadow shadow_taken
   shadow_back_lem n hn a =
       let (a₁, r₁) = cut c 48 8 _ _ (length_vector2 order x.shadow_translation) a in

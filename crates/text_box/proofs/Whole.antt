@@ -7,7 +7,6 @@ use lib.ListN.{length, length-append, length-replicate}
 use Rattle.core_read.specs.Taken.{advanced, stop_if}
 use Rattle.core_read.specs.declared.cursor.ByteOrder.{ByteOrder}
 use Rattle.core_read.specs.declared.cursor.Cursor.{Cursor}
-use Rattle.core_read.specs.declared.cursor.Place.TheVariants.{At}
 use Rattle.core_read.proofs.Numbers.{length_bytes}
 use Rattle.core_read.proofs.Cursors.{advanced_zero}
 use Rattle.core_write.proofs.Padding.{padding_small}
@@ -27,6 +26,7 @@ use Rattle.text_box.proofs.Cleared.{GoodText, GoodLabel, GoodLines}
 use Rattle.text_box.proofs.FixedBack.{length_fixed, FixedBack, fixed_back}
 use Rattle.text_box.proofs.Back.{Bounded, Set, read_text, text_place, read_label, read_table, table_place, after_text, after_label, after_lines, pos_text, pos_label, pos_lines, reach_text, reach_label, reach_lines, text_back, label_read, lines_read}
 use Rattle.utf8.proofs.Tests.{and_none}
+use Rattle.std.specs.Prelude.{Ok}
 
 -- ---- lengths
 
@@ -121,7 +121,7 @@ parts_taken body c x found name table = record {
   text_box = parts_back body x found name table;
   text_place = text_place body found;
   lines_place = table_place (place_of body (label_end body found name)) table;
-  then = At (after_parts body (advanced c 84) found name table);
+  then = Ok (after_parts body (advanced c 84) found name table);
 }
 
 measure_back : (m : FontMeasure) → font_measure_of (measure_kind m) (measure_vector m) ≡ m
@@ -173,7 +173,7 @@ module _ (s : List ℕ) (c : Cursor) (order : ByteOrder) (body : ℕ) (here : c.
       (subst (λ (k : ℕ). Holds s k (encode_fixed order x (text_offset found) (part_offset (place_of body (text_end found)) (text_end found) name)
       (part_offset (place_of body (label_end body found name)) (label_end body found name) table))) z rest.0)
 
-  parts_from : text_box_taken order s (At (advanced c 0)) body ≡ parts_taken body c x found name table
+  parts_from : text_box_taken order s (Ok (advanced c 0)) body ≡ parts_taken body c x found name table
   unfolding text_box_taken assembled per_character_checked stop_if
   parts_from =
       let d : Cursor = advanced c 84 in
@@ -190,5 +190,5 @@ module _ (s : List ℕ) (c : Cursor) (order : ByteOrder) (body : ℕ) (here : c.
         measure_back x.font_measure,
       )
 
-  pub parts_read : text_box_taken order s (At c) body ≡ parts_taken body c x found name table
+  pub parts_read : text_box_taken order s (Ok c) body ≡ parts_taken body c x found name table
   parts_read = rw advanced_zero at parts_from

@@ -1,15 +1,10 @@
 -- The body calls of a text box.
-use Rattle.std.specs.Prelude.{ℕ, ◌+◌, ◌≡◌, List, ◌++◌, length}
+use Rattle.std.specs.Prelude.{ℕ, ◌+◌, ◌≡◌, List, ◌++◌, length, Err, Ok}
 use Rattle.core_read.specs.Bytes.{splice}
-use Rattle.core_read.specs.Taken.{start, over}
-use Rattle.core_checks.specs.Checks.{length_checked, body_checked, body_start, list_checked, end_checked, reach_checked, parsed_of, unless_refused, written_of}
+use Rattle.core_read.specs.Taken.{start, over, Place}
+use Rattle.core_checks.specs.Checks.{length_checked, body_checked, body_start, list_checked, end_checked, reach_checked, unless_refused, written_of, Extent, Written}
 use Rattle.core_read.specs.declared.error.Refusal.{Refusal}
 use Rattle.core_read.specs.declared.cursor.ByteOrder.{ByteOrder}
-use Rattle.core_read.specs.declared.cursor.Place.{Place}
-use Rattle.core_read.specs.declared.cursor.Place.TheVariants.{At}
-use Rattle.core_checks.specs.declared.checks.Extent.{Extent}
-use Rattle.core_checks.specs.declared.checks.Parsed.TheVariants as Parseds
-use Rattle.core_checks.specs.declared.checks.Written.{Written}
 use Rattle.pane_read.specs.Pane.{pane_taken, blank_pane, encode_pane}
 use Rattle.pane_checks.specs.Checks.{texts_checked, names_checked, reserve_checked}
 use Rattle.pane_read.specs.declared.Pane.{Pane}
@@ -28,7 +23,7 @@ use Rattle.text_box.specs.declared.body.TextBoxParsed.{TextBoxParsed}
 
 -- what is read beside a refusal
 pub record Blank (why : Refusal) (r : TextBoxParsed) : Type 0 where
-  pub answer : r.answer ≡ Parseds.Refused why
+  pub answer : r.answer ≡ Err why
   pub base : r.base ≡ blank_pane
   pub own : r.text_box ≡ blank_text_box
 
@@ -43,7 +38,7 @@ text_box_measured order s p body extent =
 unfoldable pub text_box_given : TextBoxMeasured → TextBoxParsed
 text_box_given m =
     record {
-      answer = parsed_of m.then;
+      answer = m.then;
       base = unless_refused m.then blank_pane m.base;
       text_box = unless_refused m.then blank_text_box m.own.text_box;
     }
@@ -78,7 +73,7 @@ text_box_start n units lines body = list_checked (list_checked (body_start n bod
 -- 1, 2, 9, 10, 11, 13, 14, 15 and 16 of a write into n bytes
 unfoldable pub text_box_write_checked : Pane → TextBoxPane → List ℕ → List ℕ → List ℕ → ℕ → ℕ → Place
 text_box_write_checked b x units lines label n body =
-    let p1 : Place = length_checked (At (start body)) n in
+    let p1 : Place = length_checked (Ok (start body)) n in
     let p2 : Place = label_length_checked p1 (label_part x.label label) in
     let p3 : Place = body_checked p2 n body in
     let p4 : Place = names_checked p3 b in

@@ -1,14 +1,13 @@
 // The body calls of a text box: any bytes are read or refused, any text box is written or refused.
 ghost use Rattle.std.specs.Prelude.{◌≡◌, ◌+◌, ◌^◌, ◌≤◌, ◌<◌, length};
 ghost use Rattle.core_read.specs.Bytes.{Room, Put};
-ghost use Rattle.core_checks.specs.Checks.{end_checked, parsed_by_number, written_by_number};
+ghost use Rattle.core_checks.specs.Answered.{Clears};
+ghost use Rattle.core_checks.specs.Checks.{parsed_by_number, written_by_number};
 ghost use Rattle.pane_read.specs.Pane.{Sound};
 ghost use Rattle.text_box_read.specs.TextBox.{Standing};
 ghost use Rattle.text_box_write.specs.Written.{Small, text_box_length};
-ghost use Rattle.core_checks.specs.declared.checks.Extent.TheVariants.{Buffer};
 ghost use Rattle.text_box.specs.Body.{Blank, text_box_measured, text_box_given, units_filled, lines_filled, text_box_read, text_box_start, Reads, encode_body, text_box_write_checked, text_box_written, text_box_output};
 
-use core_checks::checks::{Extent, Parsed, Written};
 use core_read::cursor::{ByteOrder, Cursor, Place};
 use core_read::error::Refusal;
 use pane_checks::checks::{names_checked, reserve_checked, texts_checked};
@@ -27,7 +26,7 @@ pub struct TextBoxMeasured {
 // What a body read gives: its answer, and the text box, blank where it was refused.
 #[derive(Clone, Copy)]
 pub struct TextBoxParsed {
-    pub answer: Parsed,
+    pub answer: Result<Cursor, Refusal>,
     pub base: Pane,
     pub text_box: TextBoxPane,
 }
@@ -36,7 +35,7 @@ fn refused(why: Refusal) -> TextBoxParsed
     ensures { Blank why result }
 {
     TextBoxParsed {
-        answer: Parsed::Refused(why),
+        answer: Err(why),
         base: pane_read::blank_pane(),
         text_box: text_box_read::blank_text_box(),
     }
@@ -48,7 +47,7 @@ pub fn measure(
     data: &[u8],
     p: Place,
     place: usize,
-    extent: Extent,
+    extent: Option<usize>,
 ) -> TextBoxMeasured
     requires { (8 ≤ place) × (place < 2 ^ 32) }
     ensures { result ≡ text_box_measured order «data».now p place extent }
@@ -68,18 +67,18 @@ pub fn measure(
 
 // The units and lines of a text box that was measured and not refused.
 pub fn fill(order: ByteOrder, data: &[u8], m: TextBoxMeasured, units: &mut [u16], lines: &mut [u32])
-    requires standing { (c : Cursor) → m.then ≡ Place.At c → Standing «data».now m.own }
+    requires standing { (c : Cursor) → m.then ≡ Ok c → Standing «data».now m.own }
     requires in_bounds { (32767 ≤ length units.old) × (510 ≤ length lines.old) }
     ensures units_after { units.new ≡ units_filled order «data».now m units.old }
     ensures lines_after { lines.new ≡ lines_filled order «data».now m lines.old }
 {
     let then = m.then;
     match then {
-        Place::At(_) => {
+        Ok(_) => {
             let own = m.own;
             text_box_read::fill_text_box(order, data, own, units, lines);
         }
-        Place::Refused(_) => {}
+        Err(_) => {}
     }
 }
 
@@ -92,15 +91,15 @@ pub fn given(m: TextBoxMeasured) -> TextBoxParsed
     let text_box = own.text_box;
     let then = m.then;
     match then {
-        Place::At(c) => {
-            let answer = core_checks::checks::read_to(c);
+        Ok(c) => {
+            let answer = Ok(c);
             TextBoxParsed {
                 answer,
                 base,
                 text_box,
             }
         }
-        Place::Refused(why) => refused(why),
+        Err(why) => refused(why),
     }
 }
 
@@ -110,7 +109,7 @@ pub fn read(
     data: &[u8],
     p: Place,
     place: usize,
-    extent: Extent,
+    extent: Option<usize>,
     units: &mut [u16],
     lines: &mut [u32],
 ) -> TextBoxParsed
@@ -130,49 +129,20 @@ pub fn parse(
     units: &mut [u16],
     lines: &mut [u32],
 ) -> TextBoxParsed
-    ensures reads { Reads order «data».now (text_box_start (length «data».now) (length units.old) (length lines.old) place) place Buffer units.old lines.old result units.new lines.new }
-    ensures answer_value { parsed_by_number result.answer ≡ parsed_by_number (text_box_read order «data».now (text_box_start (length «data».now) (length units.old) (length lines.old) place) place Buffer).answer }
+    ensures reads { Reads order «data».now (text_box_start (length «data».now) (length units.old) (length lines.old) place) place None units.old lines.old result units.new lines.new }
+    ensures answer_value { parsed_by_number result.answer ≡ parsed_by_number (text_box_read order «data».now (text_box_start (length «data».now) (length units.old) (length lines.old) place) place None).answer }
 {
     let p = core_checks::checks::body_start(data.len(), place);
     let p1 = core_checks::checks::list_checked(p, 2, 32767, units.len());
     let p2 = core_checks::checks::list_checked(p1, 3, 510, lines.len());
     match p2 {
-        Place::At(c) => read(
-            order,
-            data,
-            Place::At(c),
-            place,
-            Extent::Buffer,
-            units,
-            lines,
-        ),
-        Place::Refused(why) => refused(why),
-    }
-}
-
-// 16
-fn end_checked(
-    p: Place,
-    x: TextBoxPane,
-    units: &[u16],
-    lines: &[u32],
-    label: &[u8],
-    length: usize,
-    place: usize,
-) -> Place
-    requires { (c : Cursor) → p ≡ Place.At c → (8 ≤ place) × (place < 2 ^ 32) × Small x units.now lines.now label.now }
-    ensures { result ≡ end_checked p (place + (76 + text_box_length place x units.now lines.now label.now)) length }
-{
-    match p {
-        Place::At(c) => {
-            let width = write::text_box_length(place, x, units, lines, label);
-            core_checks::checks::end_checked(Place::At(c), place, 76 + width, length)
-        }
-        Place::Refused(why) => Place::Refused(why),
+        Ok(c) => read(order, data, Ok(c), place, None, units, lines),
+        Err(why) => refused(why),
     }
 }
 
 // 1, 2, 9, 10, 11, 13, 14, 15 and 16
+#[tactic(auto, using(text_box_checks::proofs::Stays::label_length_stays, text_box_checks::proofs::Stays::text_box_stays), unfolding(crate::specs::Body::text_box_write_checked, core_checks::specs::Checks::body_checked, pane_checks::specs::Checks::names_checked, text_box_checks::specs::Checks::label_name_checked, pane_checks::specs::Checks::reserve_checked, core_checks::specs::Checks::end_checked, core_read::specs::Taken::stop_if))]
 fn write_checked(
     b: Pane,
     x: TextBoxPane,
@@ -181,19 +151,19 @@ fn write_checked(
     label: &[u8],
     length: usize,
     place: usize,
-) -> Place
-    ensures { result ≡ text_box_write_checked b x units.now lines.now label.now length place }
+) -> Result<(), Refusal>
+    ensures { Clears result (text_box_write_checked b x units.now lines.now label.now length place) place }
 {
     text_box_read::typed_text_box(x);
-    let name = x.label;
-    let p1 = core_checks::checks::length_checked(Place::At(Cursor::start(place)), length);
-    let p2 = text_box_checks::label_length_checked(p1, name, label);
-    let p3 = core_checks::checks::body_checked(p2, length, place);
-    let p4 = names_checked(p3, b);
-    let p5 = text_box_checks::label_name_checked(p4, name, label);
-    let p6 = reserve_checked(p5, b);
-    let p7 = text_box_checks::text_box_checked(p6, x, units, lines);
-    end_checked(p7, x, units, lines, label, length, place)
+    core_checks::checks::length_checked(length)?;
+    text_box_checks::label_length_checked(x.label, label)?;
+    core_checks::checks::body_checked(length, place)?;
+    names_checked(b)?;
+    text_box_checks::label_name_checked(x.label, label)?;
+    reserve_checked(b)?;
+    text_box_checks::text_box_checked(x, units, lines)?;
+    let own = write::text_box_length(place, x, units, lines, label);
+    core_checks::checks::end_checked(place, 76 + own, length)
 }
 
 // The base, and what the kind adds.
@@ -215,6 +185,7 @@ pub fn put_body(
 }
 
 // The text box at a place. A refusal leaves the output as it was; an accepted write answers its end, and changes no byte but its own.
+#[tactic(auto, unfolding(crate::specs::Body::text_box_written, crate::specs::Body::text_box_output, core_checks::specs::Checks::written_of, core_checks::specs::Checks::unless_refused))]
 pub fn write(
     order: ByteOrder,
     b: Pane,
@@ -224,18 +195,12 @@ pub fn write(
     label: &[u8],
     out: &mut [u8],
     place: usize,
-) -> Written
+) -> Result<usize, Refusal>
     ensures value { result ≡ text_box_written b x units.now lines.now label.now (length out.old) place }
     ensures out_after { out.new ≡ text_box_output order b x units.now lines.now label.now out.old place }
     ensures result_value { written_by_number result ≡ written_by_number (text_box_written b x units.now lines.now label.now (length out.old) place) }
 {
     text_box_read::typed_text_box(x);
-    let p = write_checked(b, x, units, lines, label, out.len(), place);
-    match p {
-        Place::At(_) => {
-            let end = put_body(order, out, place, b, x, units, lines, label);
-            Written::End(end)
-        }
-        Place::Refused(why) => Written::Refused(why),
-    }
+    write_checked(b, x, units, lines, label, out.len(), place)?;
+    Ok(put_body(order, out, place, b, x, units, lines, label))
 }

@@ -5,5 +5,5 @@ pub mod body;
 
 pub use body::{parse, write};
 pub use text_box_caption::caption;
-pub use text_box_parts::{Label, LineTable, Text};
+pub use text_box_parts::{Span, Text};
 pub use text_box_read::{FontMeasure, TextBoxPane, blank_text_box};

@@ -1,25 +1,18 @@
 -- The checks of a text box.
-use Rattle.std.specs.Prelude.{ℕ, ◌/◌, Bool, true, false, not, ◌||◌, List, length, eqb}
-use Rattle.core_read.specs.Taken.{stop_if, has_zero}
+use Rattle.std.specs.Prelude.{ℕ, ◌/◌, Bool, true, false, not, ◌||◌, Option, Some, None, List, length, eqb}
+use Rattle.core_read.specs.Taken.{stop_if, has_zero, Place}
 use Rattle.core_checks.specs.Checks.{length_checked, count_checked}
 use Rattle.core_read.specs.declared.error.Refusal.TheVariants.{IllFormedUtf8, BadName, TextLength, IllFormedUtf16, NoLineBit}
-use Rattle.core_read.specs.declared.cursor.Place.{Place}
 use Rattle.utf8.specs.Utf8.{well_formed}
 use Rattle.utf16.specs.Utf16.{utf16_of}
-use Rattle.utf16.specs.declared.Utf16.{Utf16}
-use Rattle.utf16.specs.declared.Utf16.TheVariants.{WellFormed, Unpaired}
-use Rattle.text_box_parts.specs.declared.Label.{Label}
-use Rattle.text_box_parts.specs.declared.Label.TheVariants as label
-use Rattle.text_box_parts.specs.declared.LineTable.{LineTable}
-use Rattle.text_box_parts.specs.declared.LineTable.TheVariants as lines
 use Rattle.text_box_read.specs.declared.TextBoxPane.{TextBoxPane}
-use Rattle.text_box_parts.specs.Parts.{Part, absent, present, text_part, line_part}
+use Rattle.text_box_parts.specs.Parts.{Part, absent, present, text_part, line_part, Label, LineTable}
 use Rattle.text_box_caption.specs.Caption.{label_of}
 
 -- 7: the label that was read is ill-formed UTF-8
 unfoldable pub label_checked : Place → List ℕ → Label → Place
-label_checked p s label.Absent = p
-label_checked p s (label.At place long) = stop_if p (not (well_formed (label_of s (label.At place long)))) (IllFormedUtf8 place 3)
+label_checked p s None = p
+label_checked p s (Some span) = stop_if p (not (well_formed (label_of s (Some span)))) (IllFormedUtf8 span.place 3)
 
 -- 1: a label to write, longer than 16,777,216
 unfoldable pub label_length_checked : Place → Part → Place
@@ -47,13 +40,13 @@ units_bad (present units) long = not (eqb (length units) (long / 2))
 
 -- line table present, flag bit 6 clear
 unfoldable pub bit_bad : LineTable → Bool → Bool
-bit_bad lines.Absent line = false
-bit_bad (lines.Present count) line = not line
+bit_bad None line = false
+bit_bad (Some count) line = not line
 
 -- 14: text ill-formed UTF-16, with the units before the fault
-unfoldable pub fault_checked : Place → Utf16 → Place
-fault_checked p WellFormed = p
-fault_checked p (Unpaired before) = stop_if p true (IllFormedUtf16 before)
+unfoldable pub fault_checked : Place → Option ℕ → Place
+fault_checked p None = p
+fault_checked p (Some before) = stop_if p true (IllFormedUtf16 before)
 
 unfoldable pub utf16_checked : Place → Part → Place
 utf16_checked p absent = p

@@ -5,11 +5,9 @@ use native.Mathlib.Omega.{arith}
 use mathlib.Core.List.{List}
 use lib.ListN.{length, get_or}
 use Rattle.core_read.specs.Bytes.{number_at}
-use Rattle.core_read.specs.Taken.{advanced}
+use Rattle.core_read.specs.Taken.{advanced, Place}
 use Rattle.core_read.specs.declared.cursor.ByteOrder.{ByteOrder}
 use Rattle.core_read.specs.declared.cursor.Cursor.{Cursor}
-use Rattle.core_read.specs.declared.cursor.Place.{Place}
-use Rattle.core_read.specs.declared.cursor.Place.TheVariants.{At}
 use Rattle.core_read.proofs.Cursors.{pos_advanced, advanced_more}
 use Rattle.core_read.proofs.Lists.{number_here}
 use Rattle.core_read.proofs.Here.{number_there, byte_there}
@@ -27,6 +25,7 @@ use Rattle.text_box_fixed.specs.declared.fixed.HeadTaken.{HeadTaken}
 use Rattle.text_box_fixed.specs.declared.fixed.FontTaken.{FontTaken}
 use Rattle.text_box_fixed.specs.declared.fixed.ShadowTaken.{ShadowTaken}
 use Rattle.text_box_fixed.specs.declared.fixed.FixedTaken.{FixedTaken}
+use Rattle.std.specs.Prelude.{Ok}
 
 module _ (order : ByteOrder) (s : List ℕ) (c : Cursor) where
   pub head_made : c.pos + 16 ≤ length s → (size long material font raw tilt : ℕ) (origin : TextPosition) (alignment : TextAlignment) (word : TextFlagsWord) (d : Cursor)
@@ -42,8 +41,8 @@ module _ (order : ByteOrder) (s : List ℕ) (c : Cursor) where
         text_alignment = alignment;
         word = word;
         italic_tilt = float tilt;
-        then = At d;
-      }) (head_taken order s (At c))
+        then = Ok d;
+      }) (head_taken order s (Ok c))
   unfolding head_taken
   head_made h size long material font raw tilt origin alignment word d e₁ e₂ e₃ e₄ e₅ e₆ e₇ e₈ e₉ e₁₀ =
       rw (
@@ -79,8 +78,8 @@ module _ (order : ByteOrder) (s : List ℕ) (c : Cursor) where
         character_space = float character;
         line_space = float line;
         label_offset = label;
-        then = At d;
-      }) (font_taken order s (At c))
+        then = Ok d;
+      }) (font_taken order s (Ok c))
   unfolding font_taken
   font_made h text character line label top bottom measure d e₁ e₂ e₃ e₄ e₅ e₆ e₇ e₈ =
       rw (
@@ -113,8 +112,8 @@ module _ (order : ByteOrder) (s : List ℕ) (c : Cursor) where
         italic_tilt = float tilt;
         line_offset = line;
         per_character_offset = each;
-        then = At d;
-      }) (shadow_taken order s (At c))
+        then = Ok d;
+      }) (shadow_taken order s (Ok c))
   unfolding shadow_taken
   shadow_made h translation size top bottom tilt line each d e₁ e₂ e₃ e₄ e₅ e₆ e₇ e₈ =
       rw (
@@ -136,24 +135,24 @@ module _ (order : ByteOrder) (s : List ℕ) (c : Cursor) where
       )
 
 -- where the head and the font leave the run
-head_then : (order : ByteOrder) (s : List ℕ) (c : Cursor) → c.pos + 16 ≤ length s → (head_taken order s (At c)).then ≡ At (advanced c 16)
+head_then : (order : ByteOrder) (s : List ℕ) (c : Cursor) → c.pos + 16 ≤ length s → (head_taken order s (Ok c)).then ≡ Ok (advanced c 16)
 head_then order s c h =
     sym (ap (λ t. t.then) (head_made order s c h _ _ _ _ _ _ _ _ _ _ refl refl refl refl refl refl refl refl refl refl))
 
-font_then : (order : ByteOrder) (s : List ℕ) (c : Cursor) → c.pos + 48 ≤ length s → (font_taken order s (At (advanced c 16))).then ≡ At (advanced c 48)
+font_then : (order : ByteOrder) (s : List ℕ) (c : Cursor) → c.pos + 48 ≤ length s → (font_taken order s (Ok (advanced c 16))).then ≡ Ok (advanced c 48)
 font_then order s c h =
     let k : (advanced c 16).pos + 32 ≤ length s = rw pos_advanced (omega arith) in
     sym (ap (λ t. t.then) (font_made order s (advanced c 16) k _ _ _ _ _ _ _ _ refl refl refl refl refl refl refl refl)) ∙ rw advanced_more
 
 pub fixed_made : (order : ByteOrder) (s : List ℕ) (c : Cursor) → c.pos + 84 ≤ length s → (d e : Cursor) → d ≡ advanced c 16 → e ≡ advanced c 48
     → (head : HeadTaken) (font : FontTaken) (shadow : ShadowTaken)
-    → head ≡ head_taken order s (At c) → font ≡ font_taken order s (At d) → shadow ≡ shadow_taken order s (At e)
-    → ◌≡◌ {A = FixedTaken} (record { head = head; font = font; shadow = shadow }) (fixed_taken order s (At c))
+    → head ≡ head_taken order s (Ok c) → font ≡ font_taken order s (Ok d) → shadow ≡ shadow_taken order s (Ok e)
+    → ◌≡◌ {A = FixedTaken} (record { head = head; font = font; shadow = shadow }) (fixed_taken order s (Ok c))
 unfolding fixed_taken
 fixed_made order s c h d e f g head font shadow e₁ e₂ e₃ =
     let h₁ = head_then order s c (omega arith) in
     let h₂ = font_then order s c (omega arith) in
-    let a : font ≡ font_taken order s (head_taken order s (At c)).then = e₂ ∙ ap (font_taken order s) (ap At f ∙ sym h₁) in
-    let b : shadow ≡ shadow_taken order s (font_taken order s (head_taken order s (At c)).then).then =
-    e₃ ∙ ap (shadow_taken order s) (ap At g ∙ sym h₂ ∙ ap (λ (q : Place). (font_taken order s q).then) (sym h₁)) in
+    let a : font ≡ font_taken order s (head_taken order s (Ok c)).then = e₂ ∙ ap (font_taken order s) (ap Ok f ∙ sym h₁) in
+    let b : shadow ≡ shadow_taken order s (font_taken order s (head_taken order s (Ok c)).then).then =
+    e₃ ∙ ap (shadow_taken order s) (ap Ok g ∙ sym h₂ ∙ ap (λ (q : Place). (font_taken order s q).then) (sym h₁)) in
     rw (e₁, a, b)

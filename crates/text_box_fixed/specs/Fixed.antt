@@ -1,33 +1,30 @@
 -- The 84 fixed bytes of a text box after the base, as they are read in three chunks.
 use Rattle.std.specs.Prelude.{ℕ, List}
-use Rattle.core_read.specs.Taken.{u8_taken, u16_taken, u32_taken}
+use Rattle.core_read.specs.Taken.{u8_taken, u16_taken, u32_taken, Place}
+use Rattle.core_read.specs.declared.cursor.Taken.{Taken}
 use Rattle.core_read.specs.declared.cursor.ByteOrder.{ByteOrder}
-use Rattle.core_read.specs.declared.cursor.Place.{Place}
-use Rattle.core_read.specs.declared.cursor.U8Taken.{U8Taken}
-use Rattle.core_read.specs.declared.cursor.U16Taken.{U16Taken}
-use Rattle.core_read.specs.declared.cursor.U32Taken.{U32Taken}
 use Rattle.flags.specs.Enums.{alignment_of}
 use Rattle.flags.specs.Fields.{origin_of, text_flags_of}
 use Rattle.floats.specs.Floats.{float}
 use Rattle.ui2d.specs.Parts.{vector2_taken, color_taken}
-use Rattle.ui2d.specs.declared.Vector2Taken.{Vector2Taken}
-use Rattle.ui2d.specs.declared.ColorTaken.{ColorTaken}
 use Rattle.text_box_fixed.specs.declared.fixed.HeadTaken.{HeadTaken}
 use Rattle.text_box_fixed.specs.declared.fixed.FontTaken.{FontTaken}
 use Rattle.text_box_fixed.specs.declared.fixed.ShadowTaken.{ShadowTaken}
 use Rattle.text_box_fixed.specs.declared.fixed.FixedTaken.{FixedTaken}
+use Rattle.ui2d.specs.declared.Vector2f.{Vector2f}
+use Rattle.ui2d.specs.declared.Color4u8.{Color4u8}
 
 -- u16 buffer size, text_length, material, font; origin, alignment; u16 flags; tilt
 unfoldable pub head_taken : ByteOrder → List ℕ → Place → HeadTaken
 head_taken order s p =
-    let size : U16Taken = u16_taken order s p in
-    let long : U16Taken = u16_taken order s size.then in
-    let material : U16Taken = u16_taken order s long.then in
-    let font : U16Taken = u16_taken order s material.then in
-    let origin : U8Taken = u8_taken order s font.then in
-    let alignment : U8Taken = u8_taken order s origin.then in
-    let raw : U16Taken = u16_taken order s alignment.then in
-    let tilt : U32Taken = u32_taken order s raw.then in
+    let size : Taken ℕ = u16_taken order s p in
+    let long : Taken ℕ = u16_taken order s size.then in
+    let material : Taken ℕ = u16_taken order s long.then in
+    let font : Taken ℕ = u16_taken order s material.then in
+    let origin : Taken ℕ = u8_taken order s font.then in
+    let alignment : Taken ℕ = u8_taken order s origin.then in
+    let raw : Taken ℕ = u16_taken order s alignment.then in
+    let tilt : Taken ℕ = u32_taken order s raw.then in
     record {
       text_buffer_size = size.value;
       text_length = long.value;
@@ -43,13 +40,13 @@ head_taken order s p =
 -- text offset; top and bottom colour; font measure (2 floats); character and line space; label offset
 unfoldable pub font_taken : ByteOrder → List ℕ → Place → FontTaken
 font_taken order s p =
-    let text : U32Taken = u32_taken order s p in
-    let top : ColorTaken = color_taken order s text.then in
-    let bottom : ColorTaken = color_taken order s top.then in
-    let floats : Vector2Taken = vector2_taken order s bottom.then in
-    let character : U32Taken = u32_taken order s floats.then in
-    let line : U32Taken = u32_taken order s character.then in
-    let label : U32Taken = u32_taken order s line.then in
+    let text : Taken ℕ = u32_taken order s p in
+    let top : Taken Color4u8 = color_taken order s text.then in
+    let bottom : Taken Color4u8 = color_taken order s top.then in
+    let floats : Taken Vector2f = vector2_taken order s bottom.then in
+    let character : Taken ℕ = u32_taken order s floats.then in
+    let line : Taken ℕ = u32_taken order s character.then in
+    let label : Taken ℕ = u32_taken order s line.then in
     record {
       text_offset = text.value;
       top_color = top.value;
@@ -64,13 +61,13 @@ font_taken order s p =
 -- shadow translation and size (2 each); two colours; shadow tilt; line offset; per-character offset
 unfoldable pub shadow_taken : ByteOrder → List ℕ → Place → ShadowTaken
 shadow_taken order s p =
-    let translation : Vector2Taken = vector2_taken order s p in
-    let size : Vector2Taken = vector2_taken order s translation.then in
-    let top : ColorTaken = color_taken order s size.then in
-    let bottom : ColorTaken = color_taken order s top.then in
-    let tilt : U32Taken = u32_taken order s bottom.then in
-    let line : U32Taken = u32_taken order s tilt.then in
-    let each : U32Taken = u32_taken order s line.then in
+    let translation : Taken Vector2f = vector2_taken order s p in
+    let size : Taken Vector2f = vector2_taken order s translation.then in
+    let top : Taken Color4u8 = color_taken order s size.then in
+    let bottom : Taken Color4u8 = color_taken order s top.then in
+    let tilt : Taken ℕ = u32_taken order s bottom.then in
+    let line : Taken ℕ = u32_taken order s tilt.then in
+    let each : Taken ℕ = u32_taken order s line.then in
     record {
       translation = translation.value;
       size = size.value;

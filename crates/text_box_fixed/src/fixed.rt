@@ -1,13 +1,12 @@
 // The 84 fixed bytes of a text box after the base, in three chunks: read by one test where all are there, else field by field.
 ghost use Rattle.std.specs.Prelude.{◌≡◌};
 ghost use Rattle.core_read.specs.Bytes.{Room};
-ghost use Rattle.core_read.specs.declared.cursor.Place.TheVariants.{At};
 ghost use Rattle.text_box_fixed.specs.Fixed.{head_taken, font_taken, shadow_taken, fixed_taken};
 
 use core_read::cursor;
 use core_read::cursor::{ByteOrder, Cursor, Place};
 use flags::position::TextPosition;
-use flags::text::{TextAlignment, TextFlagsWord, TextPaneFlags};
+use flags::text::{TextAlignment, TextFlagsWord};
 use floats::Binary32;
 use ui2d::{Color4u8, Vector2f, fixed};
 
@@ -85,9 +84,9 @@ pub fn take_head(order: ByteOrder, data: &[u8], p: Place) -> HeadTaken
         text_length: length.value,
         material_index: material.value,
         font_index: font.value,
-        text_origin: TextPosition::decode(origin.value),
-        text_alignment: TextAlignment::decode(alignment.value),
-        word: TextPaneFlags::decode(raw.value),
+        text_origin: TextPosition::from(origin.value),
+        text_alignment: TextAlignment::from(alignment.value),
+        word: TextFlagsWord::from(raw.value),
         italic_tilt: Binary32 { bits: tilt.value },
         then,
     }
@@ -164,7 +163,7 @@ pub fn take_shadow(order: ByteOrder, data: &[u8], p: Place) -> ShadowTaken
 
 fn head_at(order: ByteOrder, data: &[u8], c: Cursor) -> HeadTaken
     requires { Room «data».now c.pos 16 }
-    ensures { result ≡ head_taken order «data».now (At c) }
+    ensures { result ≡ head_taken order «data».now (Ok c) }
 {
     let at = c.pos;
     let origin = data[at + 8];
@@ -180,17 +179,17 @@ fn head_at(order: ByteOrder, data: &[u8], c: Cursor) -> HeadTaken
         text_length,
         material_index,
         font_index,
-        text_origin: TextPosition::decode(origin),
-        text_alignment: TextAlignment::decode(alignment),
-        word: TextPaneFlags::decode(raw),
+        text_origin: TextPosition::from(origin),
+        text_alignment: TextAlignment::from(alignment),
+        word: TextFlagsWord::from(raw),
         italic_tilt: Binary32 { bits: tilt },
-        then: Place::At(c.advanced(16)),
+        then: Ok(c.advanced(16)),
     }
 }
 
 fn font_at(order: ByteOrder, data: &[u8], c: Cursor) -> FontTaken
     requires { Room «data».now c.pos 32 }
-    ensures { result ≡ font_taken order «data».now (At c) }
+    ensures { result ≡ font_taken order «data».now (Ok c) }
 {
     let at = c.pos;
     let text_offset = cursor::u32_at(order, data, at);
@@ -208,13 +207,13 @@ fn font_at(order: ByteOrder, data: &[u8], c: Cursor) -> FontTaken
         character_space: Binary32 { bits: character },
         line_space: Binary32 { bits: line },
         label_offset,
-        then: Place::At(c.advanced(32)),
+        then: Ok(c.advanced(32)),
     }
 }
 
 fn shadow_at(order: ByteOrder, data: &[u8], c: Cursor) -> ShadowTaken
     requires { Room «data».now c.pos 36 }
-    ensures { result ≡ shadow_taken order «data».now (At c) }
+    ensures { result ≡ shadow_taken order «data».now (Ok c) }
 {
     let at = c.pos;
     let translation = fixed::vector2_at(order, data, at);
@@ -232,7 +231,7 @@ fn shadow_at(order: ByteOrder, data: &[u8], c: Cursor) -> ShadowTaken
         italic_tilt: Binary32 { bits: tilt },
         line_offset,
         per_character_offset,
-        then: Place::At(c.advanced(36)),
+        then: Ok(c.advanced(36)),
     }
 }
 
@@ -240,7 +239,7 @@ fn shadow_at(order: ByteOrder, data: &[u8], c: Cursor) -> ShadowTaken
 
 fn fixed_at(order: ByteOrder, data: &[u8], c: Cursor) -> FixedTaken
     requires { Room «data».now c.pos 84 }
-    ensures { result ≡ fixed_taken order «data».now (At c) }
+    ensures { result ≡ fixed_taken order «data».now (Ok c) }
 {
     let head = head_at(order, data, c);
     let font = font_at(order, data, c.advanced(16));
@@ -263,15 +262,15 @@ pub fn take_fixed(order: ByteOrder, data: &[u8], p: Place) -> FixedTaken
     ensures { result ≡ fixed_taken order «data».now p }
 {
     match p {
-        Place::At(c) => {
+        Ok(c) => {
             let at = c.pos;
             if at < data.len() {
                 if 84 <= data.len() - at {
                     return fixed_at(order, data, c);
                 }
             }
-            take_chunks(order, data, Place::At(c))
+            take_chunks(order, data, Ok(c))
         }
-        Place::Refused(why) => take_chunks(order, data, Place::Refused(why)),
+        Err(why) => take_chunks(order, data, Err(why)),
     }
 }

@@ -8,14 +8,13 @@ use native.Mathlib.Omega.{arith}
 use borrow.Author.Tests.{leb-true}
 use lib.ListN.{length}
 use lib.Dec.{leb}
-use Rattle.core_read.specs.Taken.{Taken, moved, advanced, sought, number_taken}
+use Rattle.core_read.specs.Taken.{moved, advanced, sought, number_taken, Place}
+use Rattle.core_read.specs.declared.cursor.Taken.{Taken}
 use Rattle.core_read.specs.Lists.{numbers_taken, numbers_at}
 use Rattle.core_checks.specs.Checks.{unless_refused}
 use Rattle.core_read.specs.declared.error.Refusal.{Refusal}
 use Rattle.core_read.specs.declared.cursor.ByteOrder.{ByteOrder}
 use Rattle.core_read.specs.declared.cursor.Cursor.{Cursor}
-use Rattle.core_read.specs.declared.cursor.Place.{Place}
-use Rattle.core_read.specs.declared.cursor.Place.TheVariants.{At, Refused}
 use Rattle.core_read.proofs.Cursors.{pos_advanced, pos_moved}
 use Rattle.core_read.proofs.Runs.{seek_got}
 use Rattle.core_read.proofs.Lists.{number_here, numbers_here, numbers_stay}
@@ -23,65 +22,66 @@ use Rattle.text_box_parts.specs.declared.Text.{Text}
 use Rattle.text_box_parts.specs.declared.Text.TheVariants as text
 use Rattle.text_box_parts.specs.declared.parts.TextTaken.{TextTaken}
 use Rattle.text_box_parts.specs.Parts.{text_of, text_at}
+use Rattle.std.specs.Prelude.{Err, Ok}
 
 -- ---- whether a run came through, and what each step tells then
 
 abbrev pub came : Place → Bool
-came (At c) = true
-came (Refused why) = false
+came (Ok c) = true
+came (Err why) = false
 
 pub no_came : false ≡ true → ⊥
 no_came h = let z : ◌≡◌ {A = ℕ} 0 1 = cc in omega arith
 
-picked : (b : Bool) (x : Place) (why : Refusal) → came (cond b x (Refused why)) ≡ true → (b ≡ true) × (came x ≡ true)
+picked : (b : Bool) (x : Place) (why : Refusal) → came (cond b x (Err why)) ≡ true → (b ≡ true) × (came x ≡ true)
 picked true x why h = (refl, h)
 picked false x why h = absurd (no_came h)
 
 pub sought_came : (s : List ℕ) (p : Place) (to : ℕ) → came (sought s p to) ≡ true → (came p ≡ true) × (to ≤ length s)
 unfolding sought
-sought_came s (At c) to h = (refl, leb-true to (length s) (picked (leb to (length s)) _ _ h).0)
-sought_came s (Refused why) to h = absurd (no_came h)
+sought_came s (Ok c) to h = (refl, leb-true to (length s) (picked (leb to (length s)) _ _ h).0)
+sought_came s (Err why) to h = absurd (no_came h)
 
 pub number_came : (order : ByteOrder) (w : ℕ) (s : List ℕ) (p : Place) → came (number_taken order w s p).then ≡ true → came p ≡ true
 unfolding number_taken
-number_came order w s (At c) h = refl
-number_came order w s (Refused why) h = h
+number_came order w s (Ok c) h = refl
+number_came order w s (Err why) h = h
 
-picked_then : (b : Bool) (x : Taken ℕ) (v : ℕ) (why : Refusal) → came (cond b x (record { value = v; then = Refused why })).then ≡ true → b ≡ true
+picked_then : (b : Bool) (x : Taken ℕ) (v : ℕ) (why : Refusal) → came (cond b x (record { value = v; then = Err why })).then ≡ true → b ≡ true
 picked_then true x v why h = refl
 picked_then false x v why h = absurd (no_came h)
 
-pub number_fits : (order : ByteOrder) (w : ℕ) (s : List ℕ) (c : Cursor) → came (number_taken order w s (At c)).then ≡ true → c.pos + w ≤ length s
+pub number_fits : (order : ByteOrder) (w : ℕ) (s : List ℕ) (c : Cursor) → came (number_taken order w s (Ok c)).then ≡ true → c.pos + w ≤ length s
 unfolding number_taken
 number_fits order w s c h = leb-true _ _ (picked_then (leb (c.pos + w) (length s)) _ _ _ h)
 
 pub numbers_came : (order : ByteOrder) (w n : ℕ) (s : List ℕ) (p : Place) → came (numbers_taken order w n s p).then ≡ true → came p ≡ true
-numbers_came order w n s (At c) h = refl
-numbers_came order w n s (Refused why) h = rw (numbers_stay order w s n why) at h
+numbers_came order w n s (Ok c) h = refl
+numbers_came order w n s (Err why) h = rw (numbers_stay order w s n why) at h
 
-pub numbers_fit : (order : ByteOrder) (w n : ℕ) (s : List ℕ) (c : Cursor) → c.pos ≤ length s → came (numbers_taken order w n s (At c)).then ≡ true
+pub numbers_fit : (order : ByteOrder) (w n : ℕ) (s : List ℕ) (c : Cursor) → c.pos ≤ length s → came (numbers_taken order w n s (Ok c)).then ≡ true
     → c.pos + w * n ≤ length s
 unfolding numbers_taken
 numbers_fit order w zero s c l h = omega (arith, mul-zero w)
 numbers_fit order w (suc n) s c l h =
-    let a : came (number_taken order w s (At c)).then ≡ true = numbers_came order w n s _ h in
+    let a : came (number_taken order w s (Ok c)).then ≡ true = numbers_came order w n s _ h in
     let f : c.pos + w ≤ length s = number_fits order w s c a in
-    let e : (numbers_taken order w (suc n) s (At c)).then ≡ (numbers_taken order w n s (At (advanced c w))).then = rw (numbers_taken, number_here order w s c f) in
-    let g : came (numbers_taken order w n s (At (advanced c w))).then ≡ true = sym (ap came e) ∙ h in
+    let e : (numbers_taken order w (suc n) s (Ok c)).then ≡ (numbers_taken order w n s (Ok (advanced c w))).then = rw (numbers_taken, number_here order w s c f) in
+    let g : came (numbers_taken order w n s (Ok (advanced c w))).then ≡ true = sym (ap came e) ∙ h in
     let k : (advanced c w).pos + w * n ≤ length s = numbers_fit order w n s (advanced c w) (rw pos_advanced f) g in
     omega (arith, pos_advanced c w, mul-suc w n)
 
 -- n numbers at a place that was sought
 pub numbers_sought : (order : ByteOrder) (w n : ℕ) (s : List ℕ) (p : Place) (at : ℕ) → came (numbers_taken order w n s (sought s p at)).then ≡ true
     → ((numbers_taken order w n s (sought s p at)).value ≡ numbers_at order w n s at) × (at + w * n ≤ length s)
-numbers_sought order w n s (At c) at h =
-    let l : at ≤ length s = (sought_came s (At c) at (numbers_came order w n s _ h)).1 in
-    let e : At (moved c at) ≡ sought s (At c) at = seek_got s (At c) at c refl l in
-    let g : came (numbers_taken order w n s (At (moved c at))).then ≡ true = rw (← e) at h in
+numbers_sought order w n s (Ok c) at h =
+    let l : at ≤ length s = (sought_came s (Ok c) at (numbers_came order w n s _ h)).1 in
+    let e : Ok (moved c at) ≡ sought s (Ok c) at = seek_got s (Ok c) at c refl l in
+    let g : came (numbers_taken order w n s (Ok (moved c at))).then ≡ true = rw (← e) at h in
     let f : (moved c at).pos + w * n ≤ length s = numbers_fit order w n s (moved c at) (rw pos_moved l) g in
     (rw (← e, numbers_here order w s n (moved c at) f, pos_moved) refl, omega (arith, pos_moved c at))
-numbers_sought order w n s (Refused why) at h =
-    absurd (no_came (sought_came s (Refused why) at (numbers_came order w n s _ h)).0)
+numbers_sought order w n s (Err why) at h =
+    absurd (no_came (sought_came s (Err why) at (numbers_came order w n s _ h)).0)
 
 -- ---- the text as the code takes it
 
@@ -90,16 +90,16 @@ module _ (order : ByteOrder) (s : List ℕ) (p : Place) (at n end : ℕ) (q r th
   here : (numbers_taken order 2 n s (sought s p at)).then ≡ r
   here = rw (← e) (sym f)
 
-  pub text_room : (c : Cursor) → r ≡ At c → at + 2 * n ≤ length s
+  pub text_room : (c : Cursor) → r ≡ Ok c → at + 2 * n ≤ length s
   text_room c h = (numbers_sought order 2 n s p at (ap came (here ∙ h))).1
 
-  pub text_got : (c : Cursor) → r ≡ At c → (t : Text) → t ≡ text_of (numbers_at order 2 n s at)
+  pub text_got : (c : Cursor) → r ≡ Ok c → (t : Text) → t ≡ text_of (numbers_at order 2 n s at)
       → ◌≡◌ {A = TextTaken} (record { text = t; place = at; then = then }) (text_at order s p at n end)
   unfolding text_at unless_refused
   text_got c h t k =
       rw (here, g, h, (numbers_sought order 2 n s p at (ap came (here ∙ h))).0, k)
 
-  pub text_refused : (why : Refusal) → r ≡ Refused why
+  pub text_refused : (why : Refusal) → r ≡ Err why
       → ◌≡◌ {A = TextTaken} (record { text = text.Absent; place = at; then = then }) (text_at order s p at n end)
   unfolding text_at unless_refused
   text_refused why h = rw (here, g, h)

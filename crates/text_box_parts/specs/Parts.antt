@@ -1,24 +1,27 @@
 -- The parts of a text box that offsets point to: text, label and line table.
-use Rattle.std.specs.Prelude.{ℕ, zero, suc, ◌+◌, ◌-◌, ◌*◌, ◌/◌, Bool, true, false, not, cond, ◌&&◌, List, [], ◌∷◌, get_or, eqb}
-use Rattle.core_read.specs.Taken.{Taken, stop_if, sought, u8_taken, as_count}
+use Rattle.std.specs.Prelude.{ℕ, zero, suc, ◌+◌, ◌-◌, ◌*◌, ◌/◌, Bool, not, cond, ◌&&◌, List, [], ◌∷◌, get_or, eqb, None, Some, Option}
+use Rattle.core_read.specs.Taken.{stop_if, sought, u8_taken, as_count, Place}
+use Rattle.core_read.specs.declared.cursor.Taken.{Taken}
 use Rattle.core_read.specs.Taken as core
 use Rattle.core_read.specs.Lists.{numbers_taken, numbers_at}
 use Rattle.core_checks.specs.Checks.{unless_refused}
 use Rattle.core_read.specs.declared.cursor.ByteOrder.{ByteOrder}
-use Rattle.core_read.specs.declared.cursor.Place.{Place}
-use Rattle.core_read.specs.declared.cursor.U8Taken.{U8Taken}
-use Rattle.core_read.specs.declared.text.CountTaken.{CountTaken}
 use Rattle.core_read.specs.declared.error.Refusal.TheVariants.{PerCharacter}
-use Rattle.utf16.specs.Utf16.{well_formed16, low_surrogate}
+use Rattle.utf16.specs.Utf16.{well_formed16}
+use Rattle.text_box_parts.specs.declared.Span.{Span}
 use Rattle.text_box_parts.specs.declared.Text.{Text}
 use Rattle.text_box_parts.specs.declared.Text.TheVariants as text
-use Rattle.text_box_parts.specs.declared.Label.{Label}
-use Rattle.text_box_parts.specs.declared.Label.TheVariants as label
-use Rattle.text_box_parts.specs.declared.LineTable.{LineTable}
-use Rattle.text_box_parts.specs.declared.LineTable.TheVariants as lines
 use Rattle.text_box_parts.specs.declared.parts.TextTaken.{TextTaken}
 use Rattle.text_box_parts.specs.declared.parts.LabelTaken.{LabelTaken}
 use Rattle.text_box_parts.specs.declared.parts.LinesTaken.{LinesTaken}
+
+-- where a label that was read stands in the strip, if there is one; on a write its bytes are lent
+abbrev pub Label : Type 0
+Label = Option Span
+
+-- how many lines a line table has, if there is one
+abbrev pub LineTable : Type 0
+LineTable = Option ℕ
 
 -- offsets count from B − 8
 abbrev pub place_of : ℕ → ℕ → ℕ
@@ -36,12 +39,12 @@ text_part text.Absent units = absent
 text_part text.Present units = present units
 
 abbrev pub label_part : Label → List ℕ → Part
-label_part label.Absent bytes = absent
-label_part (label.At place long) bytes = present bytes
+label_part None bytes = absent
+label_part (Some span) bytes = present bytes
 
 abbrev pub line_part : LineTable → List ℕ → Part
-line_part lines.Absent l = absent
-line_part (lines.Present count) l = present l
+line_part None l = absent
+line_part (Some count) l = present l
 
 -- ---- the text: text_length / 2 rounded down, u16; ill-formed text reads as absent
 
@@ -65,38 +68,33 @@ text_taken order s p body offset long =
     (record { text = text.Absent; place = 0; then = p })
     (text_at order s p (place_of body offset) (long / 2) (body + 160))
 
--- a unit where none such may stand: a low surrogate after no high one, or another after a high one
-abbrev pub breaks : Bool → ℕ → Bool
-breaks true u = not (low_surrogate u)
-breaks false u = low_surrogate u
-
 -- ---- the label up to its NUL: its place and length
 
 unfoldable pub label_at : List ℕ → Place → ℕ → ℕ → LabelTaken
 label_at s p at end =
-    let t : CountTaken = as_count (core.label_taken s (sought s p at)) in
-    record { label = label.At at t.count; then = sought s t.then end }
+    let t : Taken ℕ = as_count (core.label_taken s (sought s p at)) in
+    record { label = Some (record { place = at; length = t.value }); then = sought s t.then end }
 
 unfoldable pub label_taken : List ℕ → Place → ℕ → ℕ → LabelTaken
 label_taken s p body offset =
     cond (eqb offset 0)
-    (record { label = label.Absent; then = p })
+    (record { label = None; then = p })
     (label_at s p (place_of body offset) (body + 160))
 
 -- ---- the line table if flag bit 6 is set: count u8, all offsets, then all widths
 
 unfoldable pub lines_at : ByteOrder → List ℕ → Place → ℕ → ℕ → LinesTaken
 lines_at order s p at end =
-    let count : U8Taken = u8_taken order s (sought s p at) in
+    let count : Taken ℕ = u8_taken order s (sought s p at) in
     let offsets : Taken (List ℕ) = numbers_taken order 4 count.value s count.then in
     let widths : Taken (List ℕ) = numbers_taken order 4 count.value s offsets.then in
-    record { line_table = lines.Present count.value; place = at; then = sought s widths.then end }
+    record { line_table = Some count.value; place = at; then = sought s widths.then end }
 
 unfoldable pub lines_taken : ByteOrder → List ℕ → Place → ℕ → Bool → ℕ → LinesTaken
 lines_taken order s p body line offset =
     cond (line && not (eqb offset 0))
     (lines_at order s p (place_of body offset) (body + 160))
-    (record { line_table = lines.Absent; place = 0; then = p })
+    (record { line_table = None; place = 0; then = p })
 
 -- 6: flag bit 4 set and per-character offset nonzero
 unfoldable pub per_character_checked : Place → Bool → ℕ → Place
@@ -122,5 +120,5 @@ units_of text.Present units = units
 
 -- lines as offset, width pairs
 abbrev pub lines_of : ByteOrder → List ℕ → LineTable → ℕ → List ℕ
-lines_of order s lines.Absent at = []
-lines_of order s (lines.Present count) at = pairs (numbers_at order 4 count s (at + 1)) (numbers_at order 4 count s (at + 1 + 4 * count))
+lines_of order s None at = []
+lines_of order s (Some count) at = pairs (numbers_at order 4 count s (at + 1)) (numbers_at order 4 count s (at + 1 + 4 * count))

@@ -11,16 +11,9 @@ pub enum Text {
     Present,
 }
 
-// Where a label that was read stands in the strip; on a write its bytes are lent.
+// Where a part stands in the strip, as a label that was read; on a write a label's bytes are lent.
 #[derive(Clone, Copy)]
-pub enum Label {
-    Absent,
-    At { place: usize, length: usize },
-}
-
-// Its lines are a lent list of pairs: offset, width.
-#[derive(Clone, Copy)]
-pub enum LineTable {
-    Absent,
-    Present { count: u8 },
+pub struct Span {
+    pub place: usize,
+    pub length: usize,
 }

@@ -5,7 +5,7 @@ ghost use Rattle.core_read.specs.Lists.{numbers_at};
 ghost use Rattle.core_read.specs.Taken.{over};
 ghost use Rattle.text_box_parts.specs.Parts.{place_of, text_of, text_at, text_taken, label_at, label_taken, lines_at, lines_taken, per_character_checked, pairs, units_of, lines_of};
 
-use crate::{Label, LineTable, Text};
+use crate::{Span, Text};
 use core_read::cursor::{ByteOrder, Place};
 use core_read::error::Refusal;
 use core_read::{cursor, list, text};
@@ -19,13 +19,13 @@ pub struct TextTaken {
 
 #[derive(Clone, Copy)]
 pub struct LabelTaken {
-    pub label: Label,
+    pub label: Option<Span>,
     pub then: Place,
 }
 
 #[derive(Clone, Copy)]
 pub struct LinesTaken {
-    pub line_table: LineTable,
+    pub line_table: Option<u8>,
     pub place: usize,
     pub then: Place,
 }
@@ -55,7 +55,7 @@ fn text_at(order: ByteOrder, data: &[u8], p: Place, at: usize, n: usize, end: us
     let p2 = list::measure_u16s(order, data, p1, n);
     let then = cursor::seek(data, p2, end);
     match p2 {
-        Place::At(_) => {
+        Ok(_) => {
             let found = text_of(order, data, at, n);
             TextTaken {
                 text: found,
@@ -63,7 +63,7 @@ fn text_at(order: ByteOrder, data: &[u8], p: Place, at: usize, n: usize, end: us
                 then,
             }
         }
-        Place::Refused(_) => TextTaken {
+        Err(_) => TextTaken {
             text: Text::Absent,
             place: at,
             then,
@@ -103,10 +103,10 @@ fn label_at(data: &[u8], p: Place, at: usize, end: usize) -> LabelTaken
     let after = taken.then;
     let then = cursor::seek(data, after, end);
     LabelTaken {
-        label: Label::At {
+        label: Some(Span {
             place: at,
-            length: taken.count,
-        },
+            length: taken.value,
+        }),
         then,
     }
 }
@@ -117,7 +117,7 @@ pub fn take_label(data: &[u8], p: Place, body: usize, offset: u32) -> LabelTaken
 {
     if offset == 0 {
         return LabelTaken {
-            label: Label::Absent,
+            label: None,
             then: p,
         };
     }
@@ -138,7 +138,7 @@ fn lines_at(order: ByteOrder, data: &[u8], p: Place, at: usize, end: usize) -> L
     let p4 = list::measure_u32s(order, data, p3, count as usize);
     let then = cursor::seek(data, p4, end);
     LinesTaken {
-        line_table: LineTable::Present { count },
+        line_table: Some(count),
         place: at,
         then,
     }
@@ -162,7 +162,7 @@ pub fn take_lines(
         }
     }
     LinesTaken {
-        line_table: LineTable::Absent,
+        line_table: None,
         place: 0,
         then: p,
     }
@@ -179,15 +179,14 @@ pub fn per_character_checked(p: Place, each: bool, offset: u32) -> Place
 // ---- filled
 
 // The numbers of two columns as pairs at the front of a list.
+// By place: of chunks that are lent to be written (chunks_exact_mut) a proof knows nothing afterwards.
 fn fill_pairs(order: ByteOrder, data: &[u8], at: usize, n: usize, out: &mut [u32])
     requires { Room «data».now at (8 * n) × (2 * n ≤ length out.old) }
     ensures { out.new ≡ over (pairs (numbers_at order 4 n «data».now at) (numbers_at order 4 n «data».now (at + 4 * n))) out.old }
 {
-    let mut i = 0;
-    while i < n {
+    for i in 0..n {
         out[2 * i] = cursor::u32_at(order, data, at + 4 * i);
         out[2 * i + 1] = cursor::u32_at(order, data, at + 4 * n + 4 * i);
-        i += 1;
     }
 }
 
@@ -201,12 +200,12 @@ pub fn fill_units(order: ByteOrder, data: &[u8], text: Text, at: usize, n: usize
     }
 }
 
-pub fn fill_lines(order: ByteOrder, data: &[u8], table: LineTable, at: usize, lines: &mut [u32])
-    requires { ((count : ℕ) → table ≡ LineTable.Present count → Room «data».now (at + 1) (8 * count)) × (510 ≤ length lines.old) }
+pub fn fill_lines(order: ByteOrder, data: &[u8], table: Option<u8>, at: usize, lines: &mut [u32])
+    requires { ((count : ℕ) → table ≡ Some count → Room «data».now (at + 1) (8 * count)) × (510 ≤ length lines.old) }
     ensures { lines.new ≡ over (lines_of order «data».now table at) lines.old }
 {
     match table {
-        LineTable::Absent => {}
-        LineTable::Present { count } => fill_pairs(order, data, at + 1, count as usize, lines),
+        None => {}
+        Some(count) => fill_pairs(order, data, at + 1, count as usize, lines),
     }
 }

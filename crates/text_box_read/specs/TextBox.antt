@@ -1,8 +1,7 @@
 -- A text box beyond the base: its read, and the blank one.
-use Rattle.std.specs.Prelude.{ℕ, ◌+◌, ◌*◌, ◌/◌, ◌≤◌, ◌≡◌, List, length}
+use Rattle.std.specs.Prelude.{ℕ, ◌+◌, ◌*◌, ◌/◌, ◌≤◌, ◌≡◌, List, length, None, Some}
 use Rattle.core_read.specs.Lists.{numbers_at}
 use Rattle.core_read.specs.declared.cursor.ByteOrder.{ByteOrder}
-use Rattle.core_read.specs.declared.cursor.Place.{Place}
 use Rattle.flags.specs.Fields.{origin_of, text_flags_of}
 use Rattle.flags.specs.declared.text.FontMeasureKind.{FontMeasureKind}
 use Rattle.flags.specs.declared.text.FontMeasureKind.TheVariants as kind
@@ -15,10 +14,6 @@ use Rattle.text_box_read.specs.declared.FontMeasure.{FontMeasure}
 use Rattle.text_box_read.specs.declared.FontMeasure.TheVariants as measure
 use Rattle.text_box_parts.specs.declared.Text.{Text}
 use Rattle.text_box_parts.specs.declared.Text.TheVariants as text
-use Rattle.text_box_parts.specs.declared.Label.{Label}
-use Rattle.text_box_parts.specs.declared.Label.TheVariants as label
-use Rattle.text_box_parts.specs.declared.LineTable.{LineTable}
-use Rattle.text_box_parts.specs.declared.LineTable.TheVariants as lines
 use Rattle.text_box_read.specs.declared.TextBoxPane.{TextBoxPane}
 use Rattle.text_box_read.specs.declared.TextBoxTaken.{TextBoxTaken}
 use Rattle.text_box_fixed.specs.declared.fixed.HeadTaken.{HeadTaken}
@@ -28,7 +23,8 @@ use Rattle.text_box_parts.specs.declared.parts.TextTaken.{TextTaken}
 use Rattle.text_box_parts.specs.declared.parts.LabelTaken.{LabelTaken}
 use Rattle.text_box_parts.specs.declared.parts.LinesTaken.{LinesTaken}
 use Rattle.text_box_fixed.specs.Fixed.{head_taken, font_taken, shadow_taken}
-use Rattle.text_box_parts.specs.Parts.{text_taken, label_taken, lines_taken, per_character_checked, units_of, lines_of}
+use Rattle.text_box_parts.specs.Parts.{text_taken, label_taken, lines_taken, per_character_checked, units_of, lines_of, Label, LineTable}
+use Rattle.core_read.specs.Taken.{Place}
 
 -- flag bit 12 decides whether the two floats are a font size or a scale; the record holds one or the other, and no flag
 abbrev pub font_measure_of : FontMeasureKind → Vector2f → FontMeasure
@@ -97,7 +93,7 @@ text_box_lines order s t = lines_of order s t.text_box.line_table t.lines_place
 -- these numbers stand in s
 pub record Standing (s : List ℕ) (t : TextBoxTaken) : Type 0 where
   pub units : t.text_box.text ≡ text.Present → t.text_place + 2 * (t.text_box.text_length / 2) ≤ length s
-  pub lines : (count : ℕ) → t.text_box.line_table ≡ lines.Present count → t.lines_place + 1 + 8 * count ≤ length s
+  pub lines : (count : ℕ) → t.text_box.line_table ≡ Some count → t.lines_place + 1 + 8 * count ≤ length s
 
 abbrev zero2 : Vector2f
 zero2 = record { x = float 0; y = float 0 }
@@ -127,6 +123,6 @@ blank_text_box = record {
   shadow_bottom_color = zero4;
   shadow_italic_tilt = float 0;
   text = text.Absent;
-  label = label.Absent;
-  line_table = lines.Absent;
+  label = None;
+  line_table = None;
 }

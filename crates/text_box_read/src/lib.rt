@@ -8,11 +8,11 @@ ghost use Rattle.text_box_read.specs.Typed.{TypedMeasure, TypedTextBox};
 
 use core_read::cursor::{ByteOrder, Place};
 use flags::position::TextPosition;
-use flags::text::{FontMeasureKind, TextAlignment, TextPaneFlags};
+use flags::text::{FontMeasureKind, TextAlignment, TextFlagsWord, TextPaneFlags};
 use floats::Binary32;
 use text_box_fixed::fixed;
 use text_box_fixed::fixed::{FontTaken, HeadTaken, ShadowTaken};
-use text_box_parts::{Label, LineTable, Text, parts};
+use text_box_parts::{Span, Text, parts};
 use ui2d::{Color4u8, Vector2f};
 
 // Flag bit 12 decides which of the two it is.
@@ -43,8 +43,8 @@ pub struct TextBoxPane {
     pub shadow_bottom_color: Color4u8,
     pub shadow_italic_tilt: Binary32,
     pub text: Text,
-    pub label: Label,
-    pub line_table: LineTable,
+    pub label: Option<Span>,
+    pub line_table: Option<u8>,
 }
 
 // What a read gives: the text box, where its units and its line table stand, and where the run stands then.
@@ -73,8 +73,8 @@ fn assemble(
     font: FontTaken,
     shadow: ShadowTaken,
     text: Text,
-    label: Label,
-    line_table: LineTable,
+    label: Option<Span>,
+    line_table: Option<u8>,
 ) -> TextBoxPane
     ensures { result ≡ assembled head font shadow text label line_table }
 {
@@ -187,9 +187,9 @@ pub fn blank_text_box() -> TextBoxPane
     let zero = Binary32 { bits: 0 };
     let vector = Vector2f { x: zero, y: zero };
     let color = no_color();
-    let word = TextPaneFlags::decode(0);
+    let word = TextFlagsWord::from(0);
     let text_flags = word.flags;
-    let text_origin = TextPosition::decode(0);
+    let text_origin = TextPosition::from(0);
     TextBoxPane {
         text_buffer_size: 0,
         text_length: 0,
@@ -210,8 +210,8 @@ pub fn blank_text_box() -> TextBoxPane
         shadow_bottom_color: color,
         shadow_italic_tilt: zero,
         text: Text::Absent,
-        label: Label::Absent,
-        line_table: LineTable::Absent,
+        label: None,
+        line_table: None,
     }
 }
 

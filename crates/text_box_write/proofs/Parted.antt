@@ -3,14 +3,25 @@ use mathlib.Core.Path.{◌≡◌, refl, ap}
 use mathlib.Core.List.{List}
 use Prim.Native.Nat.{ℕ, ◌+◌, ◌≤◌}
 use native.Mathlib.Omega.{arith}
-use Rattle.core_read.specs.Bytes.{Put}
+use Rattle.std.specs.Prelude.{None, Some, MatchOption}
+use Rattle.core_read.specs.Bytes.{Put, padding}
 use Rattle.core_read.specs.declared.cursor.ByteOrder.{ByteOrder}
 use Rattle.core_write.proofs.Puts.{◌then◌, put_as}
 use Rattle.text_box_read.specs.declared.TextBoxPane.{TextBoxPane}
 use Rattle.text_box_write.specs.declared.write.Layout.{Layout}
 use Rattle.text_box_write.specs.Fixed.{encode_fixed}
-use Rattle.text_box_parts.specs.Parts.{place_of, Part, text_part, label_part, line_part}
-use Rattle.text_box_write.specs.Written.{text_width, label_width, line_width, text_end, label_end, encode_text, encode_label, encode_lines, parts_length, parts_layout, parts_encoded, layout_of, text_box_length, encode_text_box}
+use Rattle.text_box_parts.specs.Parts.{place_of, Part, Label, LineTable, text_part, label_part, line_part}
+use Rattle.text_box_write.specs.Written.{part_offset, text_width, label_width, line_width, text_end, label_end, encode_text, encode_label, encode_lines, parts_length, parts_layout, parts_encoded, layout_of, text_box_length, encode_text_box}
+
+-- the offset of a part, as the code takes it
+module _ (at end r : ℕ) where
+  pub label_offset : (label : Label) (bytes : List ℕ) → MatchOption label (r ≡ 0) (λ _. r ≡ end + padding at) → r ≡ part_offset at end (label_part label bytes)
+  label_offset None bytes h = h
+  label_offset (Some span) bytes h = h
+
+  pub lines_offset : (table : LineTable) (l : List ℕ) → MatchOption table (r ≡ 0) (λ _. r ≡ end + padding at) → r ≡ part_offset at end (line_part table l)
+  lines_offset None l h = h
+  lines_offset (Some count) l h = h
 
 module _ (body p n : ℕ) (found name table : Part) (l : 8 ≤ body) (e : p ≡ body + 76) where
   at_label : (r : ℕ) → r ≡ p + 84 + text_width found → r ≡ place_of body (text_end found)

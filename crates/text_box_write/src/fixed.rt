@@ -6,7 +6,7 @@ ghost use Rattle.text_box_write.specs.Fixed.{encode_indices, encode_style, encod
 
 use core_read::cursor::ByteOrder;
 use core_write::writer;
-use flags::text::FontMeasureKind;
+use flags::text::{FontMeasureKind, TextFlagsWord};
 use text_box_read::{FontMeasure, TextBoxPane};
 use ui2d::Vector2f;
 
@@ -46,10 +46,13 @@ fn put_style(order: ByteOrder, out: &mut [u8], p: usize, x: TextBoxPane) -> usiz
     let kind = measure_kind(m);
     let o = x.text_origin;
     let a = x.text_alignment;
-    let f = x.text_flags;
-    let origin = o.encode();
-    let alignment = a.number();
-    let raw = f.encode(kind);
+    let word = TextFlagsWord {
+        flags: x.text_flags,
+        measure: kind,
+    };
+    let origin = u8::from(o);
+    let alignment = u8::from(a);
+    let raw = u16::from(word);
     let q = writer::put_u8(order, out, p, origin);
     let q = writer::put_u8(order, out, q, alignment);
     let q = writer::put_u16(order, out, q, raw);

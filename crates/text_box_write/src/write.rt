@@ -1,13 +1,13 @@
 // A text box written: offsets first, then the fixed bytes and the parts.
-ghost use Rattle.std.specs.Prelude.{◌≡◌, ◌+◌, ◌*◌, ◌/◌, ◌^◌, ◌≤◌, ◌<◌, length};
-ghost use Rattle.core_read.specs.Bytes.{bytes_of_all, Room, Put};
+ghost use Rattle.std.specs.Prelude.{◌≡◌, ◌+◌, ◌*◌, ◌/◌, ◌^◌, ◌≤◌, ◌<◌, length, MatchOption};
+ghost use Rattle.core_read.specs.Bytes.{bytes_of_all, padding, Room, Put};
 ghost use Rattle.text_box_parts.specs.Parts.{present, text_part, label_part, line_part, column};
-ghost use Rattle.text_box_write.specs.Written.{Few, text_offset, part_offset, text_width, label_width, line_width, encode_text, encode_label, encode_lines, layout_of, Small, text_box_length, encode_text_box};
+ghost use Rattle.text_box_write.specs.Written.{Few, text_offset, text_width, label_width, line_width, encode_text, encode_label, encode_lines, layout_of, Small, text_box_length, encode_text_box};
 
 use crate::fixed;
 use core_read::cursor::ByteOrder;
 use core_write::writer;
-use text_box_parts::{Label, LineTable, Text};
+use text_box_parts::{Span, Text};
 use text_box_read::TextBoxPane;
 
 // The three offsets, and how many bytes the text box has beyond the base.
@@ -31,26 +31,23 @@ fn text_width(text: Text, units: &[u16]) -> usize
     }
 }
 
-fn label_width(at: usize, label: Label, bytes: &[u8]) -> usize
+fn label_width(at: usize, label: Option<Span>, bytes: &[u8]) -> usize
     requires { Few 16777216 (label_part label bytes.now) }
     ensures { (result ≡ label_width at (label_part label bytes.now)) × (result ≤ 16777220) }
 {
     match label {
-        Label::Absent => 0,
-        Label::At {
-            place: _,
-            length: _,
-        } => writer::padding_at(at) + (bytes.len() + 1),
+        None => 0,
+        Some(_) => writer::padding_at(at) + (bytes.len() + 1),
     }
 }
 
-fn lines_width(at: usize, table: LineTable, lines: &[u32]) -> usize
+fn lines_width(at: usize, table: Option<u8>, lines: &[u32]) -> usize
     requires { Few 510 (line_part table lines.now) }
     ensures { (result ≡ line_width at (line_part table lines.now)) × (result ≤ 2044) }
 {
     match table {
-        LineTable::Absent => 0,
-        LineTable::Present { count: _ } => {
+        None => 0,
+        Some(_) => {
             let n = lines.len() / 2;
             writer::padding_at(at) + (1 + (4 * n + 4 * n))
         }
@@ -66,27 +63,13 @@ fn text_offset(text: Text, units: &[u16]) -> u32
     }
 }
 
-fn label_offset(at: usize, end: usize, label: Label, bytes: &[u8]) -> u32
+// Of the label or the line table, which is aligned.
+#[tactic(auto, unfolding(core_read::specs::Bytes::padding))]
+fn part_offset<T: Drop>(at: usize, end: usize, part: Option<T>) -> u32
     requires { end < 2 ^ 31 }
-    ensures { result ≡ part_offset at end (label_part label bytes.now) }
+    ensures { MatchOption part (result ≡ 0) (λ _. result ≡ end + padding at) }
 {
-    match label {
-        Label::Absent => 0,
-        Label::At {
-            place: _,
-            length: _,
-        } => (end + writer::padding_at(at)) as u32,
-    }
-}
-
-fn lines_offset(at: usize, end: usize, table: LineTable, lines: &[u32]) -> u32
-    requires { end < 2 ^ 31 }
-    ensures { result ≡ part_offset at end (line_part table lines.now) }
-{
-    match table {
-        LineTable::Absent => 0,
-        LineTable::Present { count: _ } => (end + writer::padding_at(at)) as u32,
-    }
+    part.map_or(0, |_| (end + writer::padding_at(at)) as u32)
 }
 
 fn lay_out(body: usize, x: TextBoxPane, units: &[u16], lines: &[u32], label: &[u8]) -> Layout
@@ -105,8 +88,8 @@ fn lay_out(body: usize, x: TextBoxPane, units: &[u16], lines: &[u32], label: &[u
     let table = lines_width(then, n, lines);
     Layout {
         text: text_offset(t, units),
-        label: label_offset(at, end, l, label),
-        lines: lines_offset(then, last, n, lines),
+        label: part_offset(at, end, l),
+        lines: part_offset(then, last, n),
         length: 84 + (text + (name + table)),
     }
 }
@@ -148,16 +131,13 @@ fn put_label_bytes(order: ByteOrder, out: &mut [u8], p: usize, bytes: &[u8]) -> 
     writer::put_u8(order, out, q, 0)
 }
 
-fn put_label(order: ByteOrder, out: &mut [u8], p: usize, label: Label, bytes: &[u8]) -> usize
+fn put_label(order: ByteOrder, out: &mut [u8], p: usize, label: Option<Span>, bytes: &[u8]) -> usize
     requires { Room out.old p (label_width p (label_part label bytes.now)) }
     ensures { Put out.old p (label_width p (label_part label bytes.now)) (encode_label p (label_part label bytes.now)) result out.new }
 {
     match label {
-        Label::Absent => p,
-        Label::At {
-            place: _,
-            length: _,
-        } => put_label_bytes(order, out, p, bytes),
+        None => p,
+        Some(_) => put_label_bytes(order, out, p, bytes),
     }
 }
 
@@ -173,12 +153,10 @@ fn put_column(
     requires { Room out.old p (4 * n) × (2 * n ≤ length lines.now) × (k ≤ 1) }
     ensures { Put out.old p (4 * n) (bytes_of_all order 4 (column lines.now k n)) result out.new }
 {
+    let (pairs, _) = lines[..2 * n].as_chunks::<2>();
     let mut q = p;
-    let mut i = 0;
-    while i < n {
-        let at = k + 2 * i;
-        q = writer::put_u32(order, out, q, lines[at]);
-        i += 1;
+    for pair in pairs {
+        q = writer::put_u32(order, out, q, pair[k]);
     }
     q
 }
@@ -195,13 +173,13 @@ fn put_table(order: ByteOrder, out: &mut [u8], p: usize, lines: &[u32]) -> usize
     put_column(order, out, q, lines, 1, n)
 }
 
-fn put_lines(order: ByteOrder, out: &mut [u8], p: usize, table: LineTable, lines: &[u32]) -> usize
+fn put_lines(order: ByteOrder, out: &mut [u8], p: usize, table: Option<u8>, lines: &[u32]) -> usize
     requires { Few 510 (line_part table lines.now) × Room out.old p (line_width p (line_part table lines.now)) }
     ensures { Put out.old p (line_width p (line_part table lines.now)) (encode_lines order p (line_part table lines.now)) result out.new }
 {
     match table {
-        LineTable::Absent => p,
-        LineTable::Present { count: _ } => put_table(order, out, p, lines),
+        None => p,
+        Some(_) => put_table(order, out, p, lines),
     }
 }
 

@@ -5,15 +5,15 @@ use native.Mathlib.Omega.{arith}
 use mathlib.Core.List.{List, [], ◌∷◌, ◌++◌, append-nil}
 use lib.ListN.{length, length-append}
 use Rattle.core_read.specs.Taken.{advanced}
+use Rattle.core_read.specs.declared.cursor.Taken.{Taken}
 use Rattle.core_read.specs.declared.cursor.ByteOrder.{ByteOrder}
 use Rattle.core_read.specs.declared.cursor.Cursor.{Cursor}
-use Rattle.core_read.specs.declared.cursor.Place.TheVariants.{At}
 use Rattle.core_read.proofs.Back.{Holds, cut}
 use Rattle.ui2d.specs.Parts.{colors_taken, encode_color, encode_colors}
 use Rattle.ui2d.specs.Typed.{TypedColors, color_at}
 use Rattle.ui2d.specs.declared.Color4u8.{Color4u8}
-use Rattle.ui2d.specs.declared.ColorsTaken.{ColorsTaken}
 use Rattle.ui2d.proofs.Parts.{length_color, color_at_lem}
+use Rattle.std.specs.Prelude.{Ok}
 
 -- a list of four is its corners
 pub corners : (vs : List Color4u8) → length vs ≡ 4 → color_at vs 0 ∷ color_at vs 1 ∷ color_at vs 2 ∷ color_at vs 3 ∷ [] ≡ vs
@@ -46,7 +46,7 @@ module _ (order : ByteOrder) where
 
 -- read back, at an offset k of a cursor
 pub colors_at : {s : List ℕ} (c : Cursor) (order : ByteOrder) (k : ℕ) (vs : List Color4u8) → TypedColors vs → Holds s (c.pos + k) (encode_colors order vs)
-    → ◌≡◌ {A = ColorsTaken} (colors_taken order s (At (advanced c k))) (record { value = vs; then = At (advanced c (k + 16)) })
+    → ◌≡◌ {A = Taken (List Color4u8)} (colors_taken order s (Ok (advanced c k))) (record { value = vs; then = Ok (advanced c (k + 16)) })
 unfolding colors_taken
 colors_at {s} c order k vs t a =
     let e : k + 4 + 4 + 4 + 4 ≡ k + 16 = omega arith in

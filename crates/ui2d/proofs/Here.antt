@@ -6,12 +6,11 @@ use native.Mathlib.Omega.{arith}
 use mathlib.Core.List.{List, [], ◌∷◌}
 use lib.ListN.{length, get_or}
 use Rattle.core_read.specs.Bytes.{number_at}
-use Rattle.core_read.specs.Taken.{start, advanced}
+use Rattle.core_read.specs.Taken.{start, advanced, Place}
+use Rattle.core_read.specs.declared.cursor.Taken.{Taken}
 use Rattle.core_read.specs.Lists.{numbers_at}
 use Rattle.core_read.specs.declared.cursor.ByteOrder.{ByteOrder}
 use Rattle.core_read.specs.declared.cursor.Cursor.{Cursor}
-use Rattle.core_read.specs.declared.cursor.Place.{Place}
-use Rattle.core_read.specs.declared.cursor.Place.TheVariants.{At}
 use Rattle.core_read.proofs.Cursors.{pos_start, pos_advanced, advanced_more}
 use Rattle.core_read.proofs.Numbers.{one}
 use Rattle.core_read.proofs.Lists.{numbers_here}
@@ -23,33 +22,30 @@ use Rattle.ui2d.specs.declared.Vector2f.{Vector2f}
 use Rattle.ui2d.specs.declared.Vector3f.{Vector3f}
 use Rattle.ui2d.specs.declared.Color4u8.{Color4u8}
 use Rattle.ui2d.specs.declared.Quad.{Quad}
-use Rattle.ui2d.specs.declared.Vector2Taken.{Vector2Taken}
-use Rattle.ui2d.specs.declared.Vector3Taken.{Vector3Taken}
-use Rattle.ui2d.specs.declared.ColorTaken.{ColorTaken}
-use Rattle.ui2d.specs.declared.ColorsTaken.{ColorsTaken}
 use Rattle.ui2d.proofs.Parts.{as_vector2, as_vector3, as_color, vector3_of, color_of, vector2_run, vector3_run, color_run}
+use Rattle.std.specs.Prelude.{Ok}
 
 -- what a read from a place gives
 abbrev pub vector2_there : ByteOrder → List ℕ → ℕ → Vector2f
-vector2_there order s at = (vector2_taken order s (At (start at))).value
+vector2_there order s at = (vector2_taken order s (Ok (start at))).value
 
 abbrev pub vector3_there : ByteOrder → List ℕ → ℕ → Vector3f
-vector3_there order s at = (vector3_taken order s (At (start at))).value
+vector3_there order s at = (vector3_taken order s (Ok (start at))).value
 
 abbrev pub color_there : ByteOrder → List ℕ → ℕ → Color4u8
-color_there order s at = (color_taken order s (At (start at))).value
+color_there order s at = (color_taken order s (Ok (start at))).value
 
 -- ---- at a place: its numbers
 
 module _ (order : ByteOrder) (s : List ℕ) (at : ℕ) where
   vector2_numbers : at + 8 ≤ length s → vector2_there order s at ≡ vector_at (numbers_at order 4 2 s at) 0
-  vector2_numbers h = ap (λ t. t.value) (vector2_run order s (At (start at))) ∙ ap (λ (l : List ℕ). vector_at l 0) (numbers_start order 4 2 s at h)
+  vector2_numbers h = ap (λ t. t.value) (vector2_run order s (Ok (start at))) ∙ ap (λ (l : List ℕ). vector_at l 0) (numbers_start order 4 2 s at h)
 
   vector3_numbers : at + 12 ≤ length s → vector3_there order s at ≡ vector3_of (numbers_at order 4 3 s at)
-  vector3_numbers h = ap (λ t. t.value) (vector3_run order s (At (start at))) ∙ ap vector3_of (numbers_start order 4 3 s at h)
+  vector3_numbers h = ap (λ t. t.value) (vector3_run order s (Ok (start at))) ∙ ap vector3_of (numbers_start order 4 3 s at h)
 
   color_numbers : at + 4 ≤ length s → color_there order s at ≡ color_of (numbers_at order 1 4 s at)
-  color_numbers h = ap (λ t. t.value) (color_run order s (At (start at))) ∙ ap color_of (numbers_start order 1 4 s at h)
+  color_numbers h = ap (λ t. t.value) (color_run order s (Ok (start at))) ∙ ap color_of (numbers_start order 1 4 s at h)
 
 -- ---- as the code makes them
 
@@ -99,36 +95,36 @@ module _ (order : ByteOrder) (s : List ℕ) (at : ℕ) where
 
 module _ (order : ByteOrder) (s : List ℕ) where
   pub vector2_here : (c : Cursor) → c.pos + 8 ≤ length s
-      → ◌≡◌ {A = Vector2Taken} (vector2_taken order s (At c)) (record { value = vector2_there order s c.pos; then = At (advanced c 8) })
+      → ◌≡◌ {A = Taken Vector2f} (vector2_taken order s (Ok c)) (record { value = vector2_there order s c.pos; then = Ok (advanced c 8) })
   vector2_here c h =
-      vector2_run order s (At c) ∙ ap as_vector2 (numbers_here order 4 s 2 c h) ∙ rw (vector2_numbers order s c.pos h)
+      vector2_run order s (Ok c) ∙ ap as_vector2 (numbers_here order 4 s 2 c h) ∙ rw (vector2_numbers order s c.pos h)
 
   pub vector3_here : (c : Cursor) → c.pos + 12 ≤ length s
-      → ◌≡◌ {A = Vector3Taken} (vector3_taken order s (At c)) (record { value = vector3_there order s c.pos; then = At (advanced c 12) })
+      → ◌≡◌ {A = Taken Vector3f} (vector3_taken order s (Ok c)) (record { value = vector3_there order s c.pos; then = Ok (advanced c 12) })
   vector3_here c h =
-      vector3_run order s (At c) ∙ ap as_vector3 (numbers_here order 4 s 3 c h) ∙ rw (vector3_numbers order s c.pos h)
+      vector3_run order s (Ok c) ∙ ap as_vector3 (numbers_here order 4 s 3 c h) ∙ rw (vector3_numbers order s c.pos h)
 
   pub color_here : (c : Cursor) → c.pos + 4 ≤ length s
-      → ◌≡◌ {A = ColorTaken} (color_taken order s (At c)) (record { value = color_there order s c.pos; then = At (advanced c 4) })
+      → ◌≡◌ {A = Taken Color4u8} (color_taken order s (Ok c)) (record { value = color_there order s c.pos; then = Ok (advanced c 4) })
   color_here c h =
-      color_run order s (At c) ∙ ap as_color (numbers_here order 1 s 4 c h) ∙ rw (color_numbers order s c.pos h)
+      color_run order s (Ok c) ∙ ap as_color (numbers_here order 1 s 4 c h) ∙ rw (color_numbers order s c.pos h)
 
 -- at an offset k of a cursor
 module _ (order : ByteOrder) (s : List ℕ) (c : Cursor) (k : ℕ) where
   pub vector2_there_lem : c.pos + k + 8 ≤ length s
-      → ◌≡◌ {A = Vector2Taken} (vector2_taken order s (At (advanced c k))) (record { value = vector2_there order s (c.pos + k); then = At (advanced c (k + 8)) })
+      → ◌≡◌ {A = Taken Vector2f} (vector2_taken order s (Ok (advanced c k))) (record { value = vector2_there order s (c.pos + k); then = Ok (advanced c (k + 8)) })
   vector2_there_lem h =
       let e : (advanced c k).pos + 8 ≤ length s = rw pos_advanced h in
       vector2_here order s (advanced c k) e ∙ rw (advanced_more, pos_advanced c k)
 
   pub vector3_there_lem : c.pos + k + 12 ≤ length s
-      → ◌≡◌ {A = Vector3Taken} (vector3_taken order s (At (advanced c k))) (record { value = vector3_there order s (c.pos + k); then = At (advanced c (k + 12)) })
+      → ◌≡◌ {A = Taken Vector3f} (vector3_taken order s (Ok (advanced c k))) (record { value = vector3_there order s (c.pos + k); then = Ok (advanced c (k + 12)) })
   vector3_there_lem h =
       let e : (advanced c k).pos + 12 ≤ length s = rw pos_advanced h in
       vector3_here order s (advanced c k) e ∙ rw (advanced_more, pos_advanced c k)
 
   pub color_there_lem : c.pos + k + 4 ≤ length s
-      → ◌≡◌ {A = ColorTaken} (color_taken order s (At (advanced c k))) (record { value = color_there order s (c.pos + k); then = At (advanced c (k + 4)) })
+      → ◌≡◌ {A = Taken Color4u8} (color_taken order s (Ok (advanced c k))) (record { value = color_there order s (c.pos + k); then = Ok (advanced c (k + 4)) })
   color_there_lem h =
       let e : (advanced c k).pos + 4 ≤ length s = rw pos_advanced h in
       color_here order s (advanced c k) e ∙ rw (advanced_more, pos_advanced c k)
@@ -140,7 +136,7 @@ colors_there order s at = color_there order s at ∷ color_there order s (at + 4
 
 module _ (order : ByteOrder) (s : List ℕ) where
   colors_here : (c : Cursor) → c.pos + 16 ≤ length s
-      → ◌≡◌ {A = ColorsTaken} (colors_taken order s (At c)) (record { value = colors_there order s c.pos; then = At (advanced c 16) })
+      → ◌≡◌ {A = Taken (List Color4u8)} (colors_taken order s (Ok c)) (record { value = colors_there order s c.pos; then = Ok (advanced c 16) })
   unfolding colors_taken
   colors_here c h =
       rw (
@@ -150,12 +146,12 @@ module _ (order : ByteOrder) (s : List ℕ) where
         color_there_lem order s c 12 (omega arith),
       )
 
-  pub colors_made : (at : ℕ) → at + 16 ≤ length s → colors_there order s at ≡ (colors_taken order s (At (start at))).value
+  pub colors_made : (at : ℕ) → at + 16 ≤ length s → colors_there order s at ≡ (colors_taken order s (Ok (start at))).value
   colors_made at h =
       let k : (start at).pos + 16 ≤ length s = rw pos_start h in
       sym (ap (λ t. t.value) (colors_here (start at) k) ∙ ap (colors_there order s) (pos_start at))
 
-  pub colors_got : (p : Place) (c d : Cursor) → p ≡ At c → d ≡ advanced c 16 → c.pos + 16 ≤ length s
-      → (vs : List Color4u8) → vs ≡ (colors_taken order s (At (start c.pos))).value
-      → ◌≡◌ {A = ColorsTaken} (record { value = vs; then = At d }) (colors_taken order s p)
+  pub colors_got : (p : Place) (c d : Cursor) → p ≡ Ok c → d ≡ advanced c 16 → c.pos + 16 ≤ length s
+      → (vs : List Color4u8) → vs ≡ (colors_taken order s (Ok (start c.pos))).value
+      → ◌≡◌ {A = Taken (List Color4u8)} (record { value = vs; then = Ok d }) (colors_taken order s p)
   colors_got p c d here e h vs f = rw (here, colors_here c h, e, f, ← colors_made c.pos h)

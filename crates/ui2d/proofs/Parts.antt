@@ -6,12 +6,11 @@ use native.Mathlib.Omega.{arith}
 use mathlib.Core.List.{List, [], ◌∷◌, append_assoc, append-nil}
 use lib.ListN.{length, get_or}
 use Rattle.core_read.specs.Bytes.{bytes_of, bytes_of_all}
-use Rattle.core_read.specs.Taken.{Taken, advanced}
+use Rattle.core_read.specs.Taken.{advanced, Place}
+use Rattle.core_read.specs.declared.cursor.Taken.{Taken}
 use Rattle.core_read.specs.Lists.{numbers_taken, numbers_at}
 use Rattle.core_read.specs.declared.cursor.ByteOrder.{ByteOrder}
 use Rattle.core_read.specs.declared.cursor.Cursor.{Cursor}
-use Rattle.core_read.specs.declared.cursor.Place.{Place}
-use Rattle.core_read.specs.declared.cursor.Place.TheVariants.{At}
 use Rattle.core_read.proofs.Numbers.{length_bytes}
 use Rattle.core_read.proofs.Back.{Holds, holds_fits, length_all, cut, number_at_lem}
 use Rattle.core_read.proofs.Cursors.{pos_advanced}
@@ -24,9 +23,7 @@ use Rattle.ui2d.specs.declared.Vector2f.{Vector2f}
 use Rattle.ui2d.specs.declared.Vector3f.{Vector3f}
 use Rattle.ui2d.specs.declared.Color4u8.{Color4u8}
 use Rattle.ui2d.specs.declared.Quad.{Quad}
-use Rattle.ui2d.specs.declared.Vector2Taken.{Vector2Taken}
-use Rattle.ui2d.specs.declared.Vector3Taken.{Vector3Taken}
-use Rattle.ui2d.specs.declared.ColorTaken.{ColorTaken}
+use Rattle.std.specs.Prelude.{Ok}
 
 -- ---- the numbers
 
@@ -76,19 +73,19 @@ module _ (order : ByteOrder) where
 
 -- ---- reading one is reading its numbers
 
-abbrev pub as_vector2 : Taken (List ℕ) → Vector2Taken
+abbrev pub as_vector2 : Taken (List ℕ) → Taken Vector2f
 as_vector2 t = record { value = vector_at t.value 0; then = t.then }
 
 abbrev pub vector3_of : List ℕ → Vector3f
 vector3_of l = record { x = float (get_or l 0 0); y = float (get_or l 1 0); z = float (get_or l 2 0) }
 
-abbrev pub as_vector3 : Taken (List ℕ) → Vector3Taken
+abbrev pub as_vector3 : Taken (List ℕ) → Taken Vector3f
 as_vector3 t = record { value = vector3_of t.value; then = t.then }
 
 abbrev pub color_of : List ℕ → Color4u8
 color_of l = record { r = get_or l 0 0; g = get_or l 1 0; b = get_or l 2 0; a = get_or l 3 0 }
 
-abbrev pub as_color : Taken (List ℕ) → ColorTaken
+abbrev pub as_color : Taken (List ℕ) → Taken Color4u8
 as_color t = record { value = color_of t.value; then = t.then }
 
 module _ (order : ByteOrder) (s : List ℕ) (p : Place) where
@@ -108,7 +105,7 @@ module _ (order : ByteOrder) (s : List ℕ) (p : Place) where
 
 module _ {s : List ℕ} (c : Cursor) (order : ByteOrder) where
   pub numbers_at_lem : (w k : ℕ) (l : List ℕ) → Fits w l → Holds s (c.pos + k) (bytes_of_all order w l)
-      → ◌≡◌ {A = Taken (List ℕ)} (numbers_taken order w (length l) s (At (advanced c k))) (record { value = l; then = At (advanced c (k + w * length l)) })
+      → ◌≡◌ {A = Taken (List ℕ)} (numbers_taken order w (length l) s (Ok (advanced c k))) (record { value = l; then = Ok (advanced c (k + w * length l)) })
   unfolding numbers_taken bytes_of_all
   numbers_at_lem w k [] f a = rw (mul-zero, add-zero)
   numbers_at_lem w k (v ∷ l) f a =
@@ -118,21 +115,21 @@ module _ {s : List ℕ} (c : Cursor) (order : ByteOrder) where
 
   -- what is read and written as a run of numbers
   pub run_at : {R : Type 0} (w k : ℕ) (l : List ℕ) (made : Taken (List ℕ) → R) {r : R} {e : List ℕ}
-      → r ≡ made (numbers_taken order w (length l) s (At (advanced c k))) → e ≡ bytes_of_all order w l → Fits w l → Holds s (c.pos + k) e
-      → r ≡ made (record { value = l; then = At (advanced c (k + w * length l)) })
+      → r ≡ made (numbers_taken order w (length l) s (Ok (advanced c k))) → e ≡ bytes_of_all order w l → Fits w l → Holds s (c.pos + k) e
+      → r ≡ made (record { value = l; then = Ok (advanced c (k + w * length l)) })
   run_at w k l made read written f a = read ∙ ap made (numbers_at_lem w k l f (subst (Holds s (c.pos + k)) written a))
 
   pub vector2_at : (k : ℕ) (v : Vector2f) → TypedVector2 v → Holds s (c.pos + k) (encode_vector2 order v)
-      → ◌≡◌ {A = Vector2Taken} (vector2_taken order s (At (advanced c k))) (record { value = v; then = At (advanced c (k + 8)) })
+      → ◌≡◌ {A = Taken Vector2f} (vector2_taken order s (Ok (advanced c k))) (record { value = v; then = Ok (advanced c (k + 8)) })
   unfolding vector_bits vector_at
   vector2_at k v t a = run_at 4 k (vector_bits v) as_vector2 (vector2_run order s _) (vector2_bytes order v) (t.x, (t.y, tt)) a
 
   pub vector3_at : (k : ℕ) (v : Vector3f) → TypedVector3 v → Holds s (c.pos + k) (encode_vector3 order v)
-      → ◌≡◌ {A = Vector3Taken} (vector3_taken order s (At (advanced c k))) (record { value = v; then = At (advanced c (k + 12)) })
+      → ◌≡◌ {A = Taken Vector3f} (vector3_taken order s (Ok (advanced c k))) (record { value = v; then = Ok (advanced c (k + 12)) })
   vector3_at k v t a = run_at 4 k (vector3_bits v) as_vector3 (vector3_run order s _) (vector3_bytes order v) (t.x, (t.y, (t.z, tt))) a
 
   pub color_at_lem : (k : ℕ) (v : Color4u8) → TypedColor v → Holds s (c.pos + k) (encode_color order v)
-      → ◌≡◌ {A = ColorTaken} (color_taken order s (At (advanced c k))) (record { value = v; then = At (advanced c (k + 4)) })
+      → ◌≡◌ {A = Taken Color4u8} (color_taken order s (Ok (advanced c k))) (record { value = v; then = Ok (advanced c (k + 4)) })
   color_at_lem k v t a = run_at 1 k (channels v) as_color (color_run order s _) (color_bytes order v) (t.r, (t.g, (t.b, (t.a, tt)))) a
 
   pub quad_back : (k : ℕ) (v : Quad) → Fits 4 (quad_bits v) → Holds s (c.pos + k) (encode_quad order v) → quad_at (numbers_at order 4 8 s (c.pos + k)) 0 ≡ v

@@ -3,9 +3,10 @@ use mathlib.Core.Path.{◌≡◌, sym, ap, ◌∙◌}
 use Prim.Native.Nat.{ℕ, zero, suc, ◌+◌, ◌*◌, ◌/◌, ◌%◌, ◌^◌, ◌≤◌, ◌<◌}
 use native.Mathlib.Nat.{add-zero, zero-add, suc-add, mul-zero, mul-suc}
 use native.Mathlib.Omega.{arith}
-use mathlib.Core.List.{List, ◌∷◌, ◌++◌}
-use lib.ListN.{length, take, drop, length-append, length-drop}
-use lib.Seq.{take_at, take-add, drop-append-add, drop-drop}
+use mathlib.Core.List.{List, [], ◌∷◌, ◌++◌}
+use lib.ListN.{length, take, drop, get_or, length-append, length-drop}
+use lib.Seq.{take_at, take-add, drop-append-add, drop-drop, length-take-le}
+use Rattle.std.specs.Simd.{first_chunks}
 use Rattle.core_read.specs.Bytes.{number_at, bytes_of_all, splice}
 use Rattle.core_read.specs.Lists.{numbers_at}
 use Rattle.core_read.specs.declared.cursor.ByteOrder.{ByteOrder}
@@ -15,14 +16,20 @@ use Rattle.ui2d.specs.Parts.{encode_quad}
 use Rattle.ui2d.specs.Quads.{quad_bits, quad_at}
 use Rattle.ui2d.specs.declared.Quad.{Quad}
 use Rattle.ui2d.proofs.Parts.{quad_bytes}
-use Rattle.ui2d.proofs.QuadBits.{quad_cut, bits_quad}
+use Rattle.ui2d.proofs.QuadBits.{bits_quad}
+use Rattle.ui2d.proofs.Chunks.{chunk_at}
 
--- the bytes of one quad more
-pub quads_more : (order : ByteOrder) (l : List ℕ) (i : ℕ) (q : Quad) → i + 8 ≤ length l → q ≡ quad_at l i
-    → bytes_of_all order 4 (take i l) ++ encode_quad order q ≡ bytes_of_all order 4 (take (i + 8) l)
-quads_more order l i q h e =
-    ap (λ (b : List ℕ). bytes_of_all order 4 (take i l) ++ b) (quad_bytes order q ∙ ap (bytes_of_all order 4) (ap quad_bits e ∙ quad_cut l i h))
-    ∙ sym (ap (bytes_of_all order 4) (take-add i 8 l) ∙ all_append order 4 (take i l) (take 8 (drop i l)))
+-- the bytes of one quad more: the chunk i of a list cut into eights
+pub quads_more : (order : ByteOrder) (l : List ℕ) (k i : ℕ) (eights : List (List ℕ)) (q : Quad) → eights ≡ first_chunks 8 k l → i < k → 8 * k ≤ length l
+    → q ≡ quad_at (get_or eights i []) 0 → bytes_of_all order 4 (take (8 * i) l) ++ encode_quad order q ≡ bytes_of_all order 4 (take (8 * (i + 1)) l)
+quads_more order l k i eights q c h room e =
+    let eight : List ℕ = take 8 (drop (8 * i) l) in
+    let next : 8 * (i + 1) ≡ 8 * i + 8 = omega arith in
+    let is : get_or eights i [] ≡ eight = ap (λ (t : List (List ℕ)). get_or t i []) c ∙ chunk_at 8 k i l [] h in
+    let long : length eight ≡ 8 = length-take-le 8 (drop (8 * i) l) (simp length-drop (omega arith)) in
+    let bits : quad_bits q ≡ eight = ap quad_bits (e ∙ ap (λ (m : List ℕ). quad_at m 0) is) ∙ bits_quad eight long in
+    ap (λ (b : List ℕ). bytes_of_all order 4 (take (8 * i) l) ++ b) (quad_bytes order q ∙ ap (bytes_of_all order 4) bits)
+    ∙ sym (ap (bytes_of_all order 4) (ap (λ (n : ℕ). take n l) next ∙ take-add (8 * i) 8 l) ∙ all_append order 4 (take (8 * i) l) eight)
 
 -- numbers after others
 numbers_join : (order : ByteOrder) (w m k : ℕ) (s : List ℕ) (at : ℕ)

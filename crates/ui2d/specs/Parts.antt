@@ -1,53 +1,47 @@
 -- Vectors, colours and quads at a place of the bytes, as they are read and as they are written.
 use Rattle.std.specs.Prelude.{ℕ, List, [], ◌∷◌, ◌++◌}
 use Rattle.core_read.specs.Bytes.{bytes_of}
-use Rattle.core_read.specs.Taken.{u8_taken, u32_taken}
+use Rattle.core_read.specs.Taken.{u8_taken, u32_taken, Place}
+use Rattle.core_read.specs.declared.cursor.Taken.{Taken}
 use Rattle.core_read.specs.declared.cursor.ByteOrder.{ByteOrder}
-use Rattle.core_read.specs.declared.cursor.Place.{Place}
-use Rattle.core_read.specs.declared.cursor.U8Taken.{U8Taken}
-use Rattle.core_read.specs.declared.cursor.U32Taken.{U32Taken}
 use Rattle.floats.specs.Floats.{float}
 use Rattle.ui2d.specs.declared.Vector2f.{Vector2f}
 use Rattle.ui2d.specs.declared.Vector3f.{Vector3f}
 use Rattle.ui2d.specs.declared.Color4u8.{Color4u8}
 use Rattle.ui2d.specs.declared.Quad.{Quad}
-use Rattle.ui2d.specs.declared.Vector2Taken.{Vector2Taken}
-use Rattle.ui2d.specs.declared.Vector3Taken.{Vector3Taken}
-use Rattle.ui2d.specs.declared.ColorTaken.{ColorTaken}
-use Rattle.ui2d.specs.declared.ColorsTaken.{ColorsTaken}
 
 -- ---- read
 
 -- vectors are x, y, z floats, kept by their bits
-unfoldable pub vector2_taken : ByteOrder → List ℕ → Place → Vector2Taken
+unfoldable pub vector2_taken : ByteOrder → List ℕ → Place → Taken Vector2f
 vector2_taken order s p =
-    let x : U32Taken = u32_taken order s p in
-    let y : U32Taken = u32_taken order s x.then in
+    let x : Taken ℕ = u32_taken order s p in
+    let y : Taken ℕ = u32_taken order s x.then in
     record { value = record { x = float x.value; y = float y.value }; then = y.then }
 
-unfoldable pub vector3_taken : ByteOrder → List ℕ → Place → Vector3Taken
+unfoldable pub vector3_taken : ByteOrder → List ℕ → Place → Taken Vector3f
 vector3_taken order s p =
-    let x : U32Taken = u32_taken order s p in
-    let y : U32Taken = u32_taken order s x.then in
-    let z : U32Taken = u32_taken order s y.then in
+    let x : Taken ℕ = u32_taken order s p in
+    let y : Taken ℕ = u32_taken order s x.then in
+    let z : Taken ℕ = u32_taken order s y.then in
     record { value = record { x = float x.value; y = float y.value; z = float z.value }; then = z.then }
 
 -- colours are r, g, b, a bytes
-unfoldable pub color_taken : ByteOrder → List ℕ → Place → ColorTaken
+unfoldable pub color_taken : ByteOrder → List ℕ → Place → Taken Color4u8
 color_taken order s p =
-    let r : U8Taken = u8_taken order s p in
-    let g : U8Taken = u8_taken order s r.then in
-    let b : U8Taken = u8_taken order s g.then in
-    let a : U8Taken = u8_taken order s b.then in
+    let r : Taken ℕ = u8_taken order s p in
+    let g : Taken ℕ = u8_taken order s r.then in
+    let b : Taken ℕ = u8_taken order s g.then in
+    let a : Taken ℕ = u8_taken order s b.then in
     record { value = record { r = r.value; g = g.value; b = b.value; a = a.value }; then = a.then }
 
 -- four colours: top left, top right, bottom left, bottom right
-unfoldable pub colors_taken : ByteOrder → List ℕ → Place → ColorsTaken
+unfoldable pub colors_taken : ByteOrder → List ℕ → Place → Taken (List Color4u8)
 colors_taken order s p =
-    let tl : ColorTaken = color_taken order s p in
-    let tr : ColorTaken = color_taken order s tl.then in
-    let bl : ColorTaken = color_taken order s tr.then in
-    let br : ColorTaken = color_taken order s bl.then in
+    let tl : Taken Color4u8 = color_taken order s p in
+    let tr : Taken Color4u8 = color_taken order s tl.then in
+    let bl : Taken Color4u8 = color_taken order s tr.then in
+    let br : Taken Color4u8 = color_taken order s bl.then in
     record { value = tl.value ∷ tr.value ∷ bl.value ∷ br.value ∷ []; then = br.then }
 
 -- ---- written

@@ -3,7 +3,6 @@ ghost use Rattle.std.specs.Prelude.{◌≡◌};
 ghost use Rattle.core_read.specs.Bytes.{Room};
 ghost use Rattle.core_read.specs.Taken.{start};
 ghost use Rattle.core_read.specs.Lists.{numbers_at};
-ghost use Rattle.core_read.specs.declared.cursor.Place.TheVariants.{At};
 ghost use Rattle.ui2d.specs.Parts.{vector2_taken, vector3_taken, color_taken, colors_taken};
 ghost use Rattle.ui2d.specs.Quads.{quad_at};
 
@@ -14,7 +13,7 @@ use floats::Binary32;
 
 pub fn vector2_at(order: ByteOrder, data: &[u8], at: usize) -> Vector2f
     requires { Room «data».now at 8 }
-    ensures { result ≡ (vector2_taken order «data».now (At (start at))).value }
+    ensures { result ≡ (vector2_taken order «data».now (Ok (start at))).value }
 {
     let x = cursor::u32_at(order, data, at);
     let y = cursor::u32_at(order, data, at + 4);
@@ -26,7 +25,7 @@ pub fn vector2_at(order: ByteOrder, data: &[u8], at: usize) -> Vector2f
 
 pub fn vector3_at(order: ByteOrder, data: &[u8], at: usize) -> Vector3f
     requires { Room «data».now at 12 }
-    ensures { result ≡ (vector3_taken order «data».now (At (start at))).value }
+    ensures { result ≡ (vector3_taken order «data».now (Ok (start at))).value }
 {
     let x = cursor::u32_at(order, data, at);
     let y = cursor::u32_at(order, data, at + 4);
@@ -40,7 +39,7 @@ pub fn vector3_at(order: ByteOrder, data: &[u8], at: usize) -> Vector3f
 
 pub fn color_at(order: ByteOrder, data: &[u8], at: usize) -> Color4u8
     requires { Room «data».now at 4 }
-    ensures { result ≡ (color_taken order «data».now (At (start at))).value }
+    ensures { result ≡ (color_taken order «data».now (Ok (start at))).value }
 {
     Color4u8 {
         r: data[at],
@@ -52,7 +51,7 @@ pub fn color_at(order: ByteOrder, data: &[u8], at: usize) -> Color4u8
 
 pub fn colors_at(order: ByteOrder, data: &[u8], at: usize) -> [Color4u8; 4]
     requires { Room «data».now at 16 }
-    ensures { result ≡ (colors_taken order «data».now (At (start at))).value }
+    ensures { result ≡ (colors_taken order «data».now (Ok (start at))).value }
 {
     let top_left = color_at(order, data, at);
     let top_right = color_at(order, data, at + 4);

@@ -8,10 +8,10 @@ pub mod quads;
 ghost use Rattle.std.specs.Prelude.{◌≡◌, ◌+◌, ◌≤◌, length};
 ghost use Rattle.core_read.specs.Bytes.{Room, Put, splice};
 ghost use Rattle.ui2d.specs.Parts.{vector2_taken, vector3_taken, color_taken, colors_taken, encode_vector2, encode_vector3, encode_color, encode_colors, encode_quad};
-ghost use Rattle.ui2d.specs.Quads.{vector_at, vector_bits, quad_at, quad_bits};
+ghost use Rattle.ui2d.specs.Quads.{vector_at, quad_at, quad_bits};
 ghost use Rattle.ui2d.specs.Typed.{TypedVector2, TypedVector3, TypedColor, TypedColors};
 
-use core_read::cursor::{ByteOrder, Place};
+use core_read::cursor::{ByteOrder, Place, Taken};
 use floats::Binary32;
 
 #[derive(Clone, Copy)]
@@ -44,41 +44,17 @@ pub struct Quad {
     pub bottom_right: Vector2f,
 }
 
-#[derive(Clone, Copy)]
-pub struct Vector2Taken {
-    pub value: Vector2f,
-    pub then: Place,
-}
-
-#[derive(Clone, Copy)]
-pub struct Vector3Taken {
-    pub value: Vector3f,
-    pub then: Place,
-}
-
-#[derive(Clone, Copy)]
-pub struct ColorTaken {
-    pub value: Color4u8,
-    pub then: Place,
-}
-
 // Of the corners: top left, top right, bottom left, bottom right.
-#[derive(Clone, Copy)]
-pub struct ColorsTaken {
-    pub value: [Color4u8; 4],
-    pub then: Place,
-}
-
 // ---- read
 
-pub fn take_vector2(order: ByteOrder, data: &[u8], p: Place) -> Vector2Taken
+pub fn take_vector2(order: ByteOrder, data: &[u8], p: Place) -> Taken<Vector2f>
     ensures { result ≡ vector2_taken order «data».now p }
 {
     let x = core_read::cursor::take_u32(order, data, p);
     let p1 = x.then;
     let y = core_read::cursor::take_u32(order, data, p1);
     let then = y.then;
-    Vector2Taken {
+    Taken {
         value: Vector2f {
             x: Binary32 { bits: x.value },
             y: Binary32 { bits: y.value },
@@ -87,7 +63,7 @@ pub fn take_vector2(order: ByteOrder, data: &[u8], p: Place) -> Vector2Taken
     }
 }
 
-pub fn take_vector3(order: ByteOrder, data: &[u8], p: Place) -> Vector3Taken
+pub fn take_vector3(order: ByteOrder, data: &[u8], p: Place) -> Taken<Vector3f>
     ensures { result ≡ vector3_taken order «data».now p }
 {
     let x = core_read::cursor::take_u32(order, data, p);
@@ -96,7 +72,7 @@ pub fn take_vector3(order: ByteOrder, data: &[u8], p: Place) -> Vector3Taken
     let p2 = y.then;
     let z = core_read::cursor::take_u32(order, data, p2);
     let then = z.then;
-    Vector3Taken {
+    Taken {
         value: Vector3f {
             x: Binary32 { bits: x.value },
             y: Binary32 { bits: y.value },
@@ -106,7 +82,7 @@ pub fn take_vector3(order: ByteOrder, data: &[u8], p: Place) -> Vector3Taken
     }
 }
 
-pub fn take_color(order: ByteOrder, data: &[u8], p: Place) -> ColorTaken
+pub fn take_color(order: ByteOrder, data: &[u8], p: Place) -> Taken<Color4u8>
     ensures { result ≡ color_taken order «data».now p }
 {
     let r = core_read::cursor::take_u8(order, data, p);
@@ -117,7 +93,7 @@ pub fn take_color(order: ByteOrder, data: &[u8], p: Place) -> ColorTaken
     let p3 = b.then;
     let a = core_read::cursor::take_u8(order, data, p3);
     let then = a.then;
-    ColorTaken {
+    Taken {
         value: Color4u8 {
             r: r.value,
             g: g.value,
@@ -129,7 +105,7 @@ pub fn take_color(order: ByteOrder, data: &[u8], p: Place) -> ColorTaken
 }
 
 // Corner by corner.
-fn take_corners(order: ByteOrder, data: &[u8], p: Place) -> ColorsTaken
+fn take_corners(order: ByteOrder, data: &[u8], p: Place) -> Taken<[Color4u8; 4]>
     ensures { result ≡ colors_taken order «data».now p }
 {
     let tl = take_color(order, data, p);
@@ -145,28 +121,28 @@ fn take_corners(order: ByteOrder, data: &[u8], p: Place) -> ColorsTaken
     let bottom_left = bl.value;
     let bottom_right = br.value;
     let value = [top_left, top_right, bottom_left, bottom_right];
-    ColorsTaken { value, then }
+    Taken { value, then }
 }
 
 // One test where all 16 bytes are there.
-pub fn take_colors(order: ByteOrder, data: &[u8], p: Place) -> ColorsTaken
+pub fn take_colors(order: ByteOrder, data: &[u8], p: Place) -> Taken<[Color4u8; 4]>
     ensures { result ≡ colors_taken order «data».now p }
 {
     match p {
-        Place::At(c) => {
+        Ok(c) => {
             let at = c.pos;
             if at < data.len() {
                 if 16 <= data.len() - at {
                     let value = fixed::colors_at(order, data, at);
-                    return ColorsTaken {
+                    return Taken {
                         value,
-                        then: Place::At(c.advanced(16)),
+                        then: Ok(c.advanced(16)),
                     };
                 }
             }
-            take_corners(order, data, Place::At(c))
+            take_corners(order, data, Ok(c))
         }
-        Place::Refused(why) => take_corners(order, data, Place::Refused(why)),
+        Err(why) => take_corners(order, data, Err(why)),
     }
 }
 
@@ -225,6 +201,7 @@ pub fn put_quad(order: ByteOrder, out: &mut [u8], p: usize, v: Quad) -> usize
 
 // ---- quads in a lent list of bits, each at eight numbers; `at` counts numbers
 
+// Four places by hand: a pattern of the eight numbers, [a, b, c, d, e, f, g, h], is no plainer.
 fn load_vector(list: &[u32], at: usize) -> Vector2f
     requires { at + 2 ≤ length list.now }
     ensures { result ≡ vector_at list.now at }
@@ -251,22 +228,21 @@ pub fn load_quad(list: &[u32], at: usize) -> Quad
     }
 }
 
-fn store_vector(list: &mut [u32], at: usize, v: Vector2f)
-    requires { at + 2 ≤ length list.old }
-    ensures { list.new ≡ splice list.old at (vector_bits v) }
-{
-    list[at] = v.x.bits;
-    list[at + 1] = v.y.bits;
-}
-
 pub fn store_quad(list: &mut [u32], at: usize, q: Quad)
     requires { at + 8 ≤ length list.old }
     ensures { list.new ≡ splice list.old at (quad_bits q) }
 {
-    store_vector(list, at, q.top_left);
-    store_vector(list, at + 2, q.top_right);
-    store_vector(list, at + 4, q.bottom_left);
-    store_vector(list, at + 6, q.bottom_right);
+    let numbers = [
+        q.top_left.x.bits,
+        q.top_left.y.bits,
+        q.top_right.x.bits,
+        q.top_right.y.bits,
+        q.bottom_left.x.bits,
+        q.bottom_left.y.bits,
+        q.bottom_right.x.bits,
+        q.bottom_right.y.bits,
+    ];
+    list[at..at + 8].copy_from_slice(&numbers);
 }
 
 // ---- what the types guarantee

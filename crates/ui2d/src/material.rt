@@ -1,7 +1,6 @@
 // A material's index and the two bytes after it.
 ghost use Rattle.std.specs.Prelude.{◌≡◌};
 ghost use Rattle.core_read.specs.Bytes.{Room};
-ghost use Rattle.core_read.specs.declared.cursor.Place.TheVariants.{At};
 ghost use Rattle.ui2d.specs.Material.{material_taken};
 
 use core_read::cursor;
@@ -37,7 +36,7 @@ fn take_fields(order: ByteOrder, data: &[u8], p: Place) -> MaterialTaken
 // The fields of the 4 bytes at a cursor.
 fn material_at(order: ByteOrder, data: &[u8], c: Cursor) -> MaterialTaken
     requires { Room «data».now c.pos 4 }
-    ensures { result ≡ material_taken order «data».now (At c) }
+    ensures { result ≡ material_taken order «data».now (Ok c) }
 {
     let at = c.pos;
     let first = data[at + 2];
@@ -47,7 +46,7 @@ fn material_at(order: ByteOrder, data: &[u8], c: Cursor) -> MaterialTaken
         index,
         first,
         second,
-        then: Place::At(c.advanced(4)),
+        then: Ok(c.advanced(4)),
     }
 }
 
@@ -56,15 +55,15 @@ pub fn take_material(order: ByteOrder, data: &[u8], p: Place) -> MaterialTaken
     ensures { result ≡ material_taken order «data».now p }
 {
     match p {
-        Place::At(c) => {
+        Ok(c) => {
             let at = c.pos;
             if at < data.len() {
                 if 4 <= data.len() - at {
                     return material_at(order, data, c);
                 }
             }
-            take_fields(order, data, Place::At(c))
+            take_fields(order, data, Ok(c))
         }
-        Place::Refused(why) => take_fields(order, data, Place::Refused(why)),
+        Err(why) => take_fields(order, data, Err(why)),
     }
 }

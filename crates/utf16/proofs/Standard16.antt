@@ -12,8 +12,7 @@ use lib.ListN.{length, take, drop, take-append-drop}
 use lib.Seq.{length-take-le, take-length}
 use lib.Dec.{ltb}
 use borrow.Author.Tests.{ltb-true, ltb-false}
-use Rattle.utf16.specs.declared.Utf16.{Utf16}
-use Rattle.utf16.specs.declared.Utf16.TheVariants.{WellFormed, Unpaired}
+use Rattle.std.specs.Prelude.{Option, Some, None}
 use Rattle.utf16.specs.Utf16.{HighSurrogate, LowSurrogate, NoSurrogate, WellFormed16, none, single, pair, FirstUnpaired, high_surrogate, low_surrogate, scan, utf16_of, is_well_formed, well_formed16}
 use Rattle.utf8.proofs.Tests.{pick, not_so, between}
 use Rattle.utf16.proofs.Scan.{scan_out, scan_low, scan_end, scan_lone}
@@ -68,20 +67,20 @@ high_not_low u h = not_low u (λ k. omega (arith, h.1, k.0))
 
 -- ---- what a scan of l, after i other units, gives
 
-Outcome : ℕ → List ℕ → Utf16 → Type 0
-Outcome i l WellFormed = WellFormed16 l
-Outcome i l (Unpaired m) = (n : ℕ) × (m ≡ i + n) × FirstUnpaired l n
+Outcome : ℕ → List ℕ → Option ℕ → Type 0
+Outcome i l None = WellFormed16 l
+Outcome i l (Some m) = (n : ℕ) × (m ≡ i + n) × FirstUnpaired l n
 
-after_single : (i u : ℕ) (l : List ℕ) (o : Utf16) → NoSurrogate u → Outcome (i + 1) l o → Outcome i (u ∷ l) o
+after_single : (i u : ℕ) (l : List ℕ) (o : Option ℕ) → NoSurrogate u → Outcome (i + 1) l o → Outcome i (u ∷ l) o
 unfolding Outcome
-after_single i u l WellFormed s w = single s w
-after_single i u l (Unpaired m) s (n, e, f) =
+after_single i u l None s w = single s w
+after_single i u l (Some m) s (n, e, f) =
     (suc n, omega (arith, e), record { within = omega (arith, f.within); good = single s f.good; lone = f.lone })
 
-after_pair : (i h u : ℕ) (l : List ℕ) (o : Utf16) → HighSurrogate h → LowSurrogate u → Outcome (i + 1 + 1) l o → Outcome i (h ∷ u ∷ l) o
+after_pair : (i h u : ℕ) (l : List ℕ) (o : Option ℕ) → HighSurrogate h → LowSurrogate u → Outcome (i + 1 + 1) l o → Outcome i (h ∷ u ∷ l) o
 unfolding Outcome
-after_pair i h u l WellFormed a b w = pair a b w
-after_pair i h u l (Unpaired m) a b (n, e, f) =
+after_pair i h u l None a b w = pair a b w
+after_pair i h u l (Some m) a b (n, e, f) =
     (suc (suc n), omega (arith, e), record { within = omega (arith, f.within); good = pair a b f.good; lone = f.lone })
 
 unless_low : (i u : ℕ) (l : List ℕ) (b : Bool) → high_surrogate u ≡ b → low_surrogate u ≡ false
@@ -98,11 +97,11 @@ outcome [] i = (
   λ h a. (0, omega arith, record { within = omega arith; good = none; lone = inr (a, λ b. omega (arith, b.0)) }),
 )
 outcome (u ∷ l) i = (
-  pick (Outcome i (u ∷ l)) (low_surrogate u) (Unpaired i) (scan (high_surrogate u) (i + 1) l)
+  pick (Outcome i (u ∷ l)) (low_surrogate u) (Some i) (scan (high_surrogate u) (i + 1) l)
       (λ t. (0, omega arith, record { within = omega arith; good = none; lone = inl ((low_is u).0 t) }))
       (λ t. unless_low i u l (high_surrogate u) refl t (outcome l i).1 (outcome l (i + 1)).0),
   λ h a.
-      pick (Outcome i (h ∷ u ∷ l)) (low_surrogate u) (scan false (i + 1 + 1) l) (Unpaired (i + 1 - 1))
+      pick (Outcome i (h ∷ u ∷ l)) (low_surrogate u) (scan false (i + 1 + 1) l) (Some (i + 1 - 1))
       (λ t. after_pair i h u l (scan false (i + 1 + 1) l) a ((low_is u).0 t) (outcome l (i + 1 + 1)).0)
       (λ t. (0, omega arith, record { within = omega arith; good = none; lone = inr (a, low_false u t) })),
 )
@@ -123,7 +122,7 @@ passes_to l n h w =
     let e : length (take n l) ≡ n = length-take-le n l h in
     ap (scan false 0) (sym (take-append-drop n l)) ∙ passes 0 (take n l) (drop n l) w ∙ ap (λ (k : ℕ). scan false k (drop n l)) (omega (arith, e))
 
-stops_at : (l : List ℕ) (n : ℕ) → FirstUnpaired l n → scan false n (drop n l) ≡ Unpaired n
+stops_at : (l : List ℕ) (n : ℕ) → FirstUnpaired l n → scan false n (drop n l) ≡ Some n
 stops_at l n f =
     ⊎_elim
     (λ a. scan_low l n f.within ((low_is _).1 a))
@@ -137,27 +136,27 @@ stops_at l n f =
 
 -- ---- the theorems
 
--- the answer is WellFormed exactly at what the Standard calls well-formed
-pub standard16 : (l : List ℕ) → (utf16_of l ≡ WellFormed) ↔ WellFormed16 l
+-- the answer is None exactly at what the Standard calls well-formed
+pub standard16 : (l : List ℕ) → (utf16_of l ≡ None) ↔ WellFormed16 l
 unfolding utf16_of Outcome
 standard16 l = (
   λ e. subst (Outcome 0 l) e (outcome l 0).0,
   λ w. passes_to l (length l) (omega arith) (rw take-length w) ∙ scan_out l (length l) (omega arith),
 )
 
--- the answer is Unpaired with n exactly where the first unpaired surrogate has n units before it
-pub unpaired16 : (l : List ℕ) (n : ℕ) → (utf16_of l ≡ Unpaired n) ↔ FirstUnpaired l n
+-- the answer is Some with n exactly where the first unpaired surrogate has n units before it
+pub unpaired16 : (l : List ℕ) (n : ℕ) → (utf16_of l ≡ Some n) ↔ FirstUnpaired l n
 unfolding utf16_of Outcome
 unpaired16 l n = (
-  λ e. let o : Outcome 0 l (Unpaired n) = subst (Outcome 0 l) e (outcome l 0).0 in
+  λ e. let o : Outcome 0 l (Some n) = subst (Outcome 0 l) e (outcome l 0).0 in
       let k : o.0 ≡ n = omega (arith, o.1) in
       rw k at o.2,
   λ f. passes_to l n (omega (arith, f.within)) f.good ∙ stops_at l n f,
 )
 
-is_well_formed_lem : (o : Utf16) → (is_well_formed o ≡ true) ↔ (o ≡ WellFormed)
-is_well_formed_lem WellFormed = (λ e. refl, λ e. refl)
-is_well_formed_lem (Unpaired n) = (λ e. absurd (false≢true e), λ e. ap is_well_formed e)
+is_well_formed_lem : (o : Option ℕ) → (is_well_formed o ≡ true) ↔ (o ≡ None)
+is_well_formed_lem None = (λ e. refl, λ e. refl)
+is_well_formed_lem (Some n) = (λ e. absurd (false≢true e), λ e. ap is_well_formed e)
 
 -- the same of the Bool
 pub well_formed16_lem : (l : List ℕ) → (well_formed16 l ≡ true) ↔ WellFormed16 l

@@ -1,8 +1,6 @@
 -- Well-formed UTF-16: as the Unicode Standard defines it, then as a computed answer, which the contract cites.
 -- That the two agree is proved: `standard16` and `unpaired16`, of proofs/Standard16.antt.
-use Rattle.std.specs.Prelude.{ℕ, suc, ◌+◌, ◌-◌, ◌<◌, ◌≤◌, ◌⊎◌, List, [], ◌∷◌, Bool, true, false, cond, ◌&&◌, length, get_or, take, leb}
-use Rattle.utf16.specs.declared.Utf16.{Utf16}
-use Rattle.utf16.specs.declared.Utf16.TheVariants.{WellFormed, Unpaired}
+use Rattle.std.specs.Prelude.{ℕ, suc, ◌+◌, ◌-◌, ◌<◌, ◌≤◌, ◌⊎◌, List, [], ◌∷◌, Bool, true, false, not, cond, ◌&&◌, Option, Some, None, length, get_or, take, leb}
 
 -- ---- the Standard
 
@@ -40,21 +38,26 @@ high_surrogate u = leb 0xD800 u && leb u 0xDBFF
 unfoldable pub low_surrogate : ℕ → Bool
 low_surrogate u = leb 0xDC00 u && leb u 0xDFFF
 
--- the units l after i others, where the last of these is a high surrogate that waits for its pair (true), or not
-unfoldable pub scan : Bool → ℕ → List ℕ → Utf16
-scan false i [] = WellFormed
-scan true i [] = Unpaired (i - 1)
-scan false i (u ∷ l) = cond (low_surrogate u) (Unpaired i) (scan (high_surrogate u) (i + 1) l)
-scan true i (u ∷ l) = cond (low_surrogate u) (scan false (i + 1) l) (Unpaired (i - 1))
+-- a unit where none such may stand: a low surrogate after no high one, or another after a high one, which waits for it (true)
+abbrev pub breaks : Bool → ℕ → Bool
+breaks true u = not (low_surrogate u)
+breaks false u = low_surrogate u
+
+-- how many units stand before the first unpaired surrogate, if there is one: of the units l after i others, where the last of these is a high surrogate that waits for its pair (true), or not
+unfoldable pub scan : Bool → ℕ → List ℕ → Option ℕ
+scan false i [] = None
+scan true i [] = Some (i - 1)
+scan false i (u ∷ l) = cond (low_surrogate u) (Some i) (scan (high_surrogate u) (i + 1) l)
+scan true i (u ∷ l) = cond (low_surrogate u) (scan false (i + 1) l) (Some (i - 1))
 
 -- the answer for the whole list
-unfoldable pub utf16_of : List ℕ → Utf16
+unfoldable pub utf16_of : List ℕ → Option ℕ
 utf16_of l = scan false 0 l
 
 -- the answer as a Bool
-abbrev pub is_well_formed : Utf16 → Bool
-is_well_formed WellFormed = true
-is_well_formed (Unpaired n) = false
+abbrev pub is_well_formed : Option ℕ → Bool
+is_well_formed None = true
+is_well_formed (Some n) = false
 
 abbrev pub well_formed16 : List ℕ → Bool
 well_formed16 l = is_well_formed (utf16_of l)

@@ -2,14 +2,7 @@
 #![tactic(auto)]
 
 ghost use Rattle.std.specs.Prelude.{◌≡◌};
-ghost use Rattle.utf16.specs.Utf16.{high_surrogate, low_surrogate, utf16_of};
-
-// Well-formed, or how many units stand before the first unpaired surrogate.
-#[derive(Clone, Copy)]
-pub enum Utf16 {
-    WellFormed,
-    Unpaired { before: usize },
-}
+ghost use Rattle.utf16.specs.Utf16.{high_surrogate, low_surrogate, breaks, utf16_of};
 
 pub fn high_surrogate(u: u16) -> bool
     ensures { result ≡ high_surrogate u }
@@ -23,28 +16,25 @@ pub fn low_surrogate(u: u16) -> bool
     (0xDC00 <= u) & (u <= 0xDFFF)
 }
 
-pub fn validate(units: &[u16]) -> Utf16
+// A unit where none such may stand: a low surrogate after no high one, or another after a high one, which waits for it.
+pub fn breaks(waits: bool, u: u16) -> bool
+    ensures { result ≡ breaks waits u }
+{
+    let low = low_surrogate(u);
+    if waits { !low } else { low }
+}
+
+// How many units stand before the first unpaired surrogate, if there is one.
+pub fn first_unpaired(units: &[u16]) -> Option<usize>
     ensures { result ≡ utf16_of units.now }
 {
-    let mut i: usize = 0;
-    while i < units.len() {
-        let u = units[i];
-        if low_surrogate(u) {
-            return Utf16::Unpaired { before: i };
+    // the place of a high surrogate that waits for its pair
+    let mut waits = None;
+    for (i, u) in units.iter().enumerate() {
+        if breaks(waits.is_some(), *u) {
+            return waits.or(Some(i));
         }
-        let mut next = i + 1;
-        if high_surrogate(u) {
-            if units.len() <= next {
-                return Utf16::Unpaired { before: i };
-            }
-            let v = units[next];
-            if low_surrogate(v) {
-                next += 1;
-            } else {
-                return Utf16::Unpaired { before: i };
-            }
-        }
-        i = next;
+        waits = high_surrogate(*u).then_some(i);
     }
-    Utf16::WellFormed
+    waits
 }

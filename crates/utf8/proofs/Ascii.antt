@@ -3,13 +3,12 @@ use mathlib.Core.Path.{◌≡◌, refl, ◌∙◌}
 use mathlib.Core.List.{List, [], ◌∷◌}
 use mathlib.Core.Bool.{Bool, true, false, not, ◌&&◌, ◌||◌, and-true}
 use Prim.Native.Nat.{ℕ, zero, suc, ◌+◌, ◌≤◌, ◌<◌}
-use native.Mathlib.Omega.{arith}
 use native.Mathlib.Numerals.{add-one}
 use lib.ListN.{length, get_or, take, drop, drop_of_length-le}
 use lib.Seq.{drop-cons}
 use lib.Dec.{leb, ltb}
 use borrow.Author.Tests.{ltb-true, ltb-false, lt-leb, le-leb}
-use Rattle.utf8.specs.Utf8.{sequence, well_formed, is_ascii}
+use Rattle.utf8.specs.Utf8.{well_formed, is_ascii}
 use Rattle.utf8.proofs.Tests.{and_left, and_right, and_both}
 use Rattle.utf8.proofs.Walk.{well_formed_none, well_formed_step, ascii_one}
 
@@ -19,8 +18,7 @@ ascii_whole : (l : List ℕ) → is_ascii l ≡ true → well_formed l ≡ true
 unfolding is_ascii
 ascii_whole [] t = well_formed_none
 ascii_whole (b ∷ l) t =
-    let e : sequence (b ∷ l) ≡ 1 = ascii_one b l (ltb-true _ _ (and_left (ltb b 0x80) _ t)) in
-    well_formed_step (b ∷ l) (omega (arith, e)) ∙ rw e (ascii_whole l (and_right (ltb b 0x80) _ t))
+    well_formed_step (b ∷ l) 1 (ascii_one b l (ltb-true _ _ (and_left (ltb b 0x80) _ t))) ∙ ascii_whole l (and_right (ltb b 0x80) _ t)
 
 ascii_take : (n : ℕ) (l : List ℕ) → is_ascii l ≡ true → is_ascii (take n l) ≡ true
 unfolding is_ascii

@@ -1,6 +1,7 @@
 -- Well-formed UTF-8: as the Unicode Standard defines it, then as a computed test, which the contracts cite.
 -- That the two agree is proved: `standard`, of proofs/Standard.antt.
-use Rattle.std.specs.Prelude.{ℕ, zero, suc, ◌+◌, ◌<◌, ◌≤◌, ◌≡◌, Bool, true, cond, ◌&&◌, ◌||◌, length, get_or, drop, leb, ltb, eqb}
+use Rattle.std.specs.Prelude.{ℕ, zero, suc, ◌<◌, ◌≤◌, ◌≡◌, Bool, true, false, cond, ◌&&◌, ◌||◌, Option, Some, None, find, option_and_then, length, get_or, drop, leb, ltb, eqb}
+use Rattle.std.specs.Option.{option_map_or}
 use mathlib.Core.List.{List, [], ◌∷◌, ◌++◌, Memᴰ}
 use Rattle.utf8.specs.declared.Row.{Row}
 
@@ -51,32 +52,27 @@ pub data WellFormed : List ℕ → Type 0 where
 unfoldable pub takes : Row → ℕ → ℕ → Bool
 takes row j b = leb (get_or row.low j 0) b && leb b (get_or row.high j 0)
 
--- a row of no places
-abbrev pub no_row : Row
-no_row = record { count = 0; low = 0 ∷ 0 ∷ 0 ∷ 0 ∷ []; high = 0 ∷ 0 ∷ 0 ∷ 0 ∷ [] }
-
--- the first row whose first place takes b, or a row of no places
-unfoldable pub row_of : List Row → ℕ → Row
-row_of [] b = no_row
-row_of (r ∷ rs) b = cond (takes r 0 b) r (row_of rs b)
+-- the first row whose first place takes b
+unfoldable pub row_of : List Row → ℕ → Option Row
+row_of rs b = find (λ r. takes r 0 b) rs
 
 -- whether the first n places of the row take the first n bytes of l
 unfoldable pub fits : Row → List ℕ → ℕ → Bool
 fits row l zero = true
 fits row l (suc j) = fits row l j && takes row j (get_or l j 0)
 
--- how many bytes of the start of l are the sequence of the row, or 0
-unfoldable pub sequence_by : Row → List ℕ → ℕ
-sequence_by row l = cond (leb row.count (length l) && fits row l row.count) row.count 0
+-- how many bytes of the start of l are the sequence of the row, if they are one
+unfoldable pub sequence_by : Row → List ℕ → Option ℕ
+sequence_by row l = cond (leb row.count (length l) && fits row l row.count) (Some row.count) None
 
--- how many bytes the sequence at the start of l has, or 0
-unfoldable pub sequence : List ℕ → ℕ
-sequence l = sequence_by (row_of table (get_or l 0 0)) l
+-- how many bytes the sequence at the start of l has, if there is one
+unfoldable pub sequence : List ℕ → Option ℕ
+sequence l = option_and_then (λ row. sequence_by row l) (row_of table (get_or l 0 0))
 
 -- the whole list, by at most f sequences
 unfoldable pub walk : ℕ → List ℕ → Bool
 walk zero l = eqb (length l) 0
-walk (suc f) l = eqb (length l) 0 || (ltb 0 (sequence l) && walk f (drop (sequence l) l))
+walk (suc f) l = eqb (length l) 0 || option_map_or (λ n. walk f (drop n l)) (sequence l) false
 
 -- the test: as many sequences as there are bytes are enough
 unfoldable pub well_formed : List ℕ → Bool
@@ -86,10 +82,6 @@ well_formed l = walk (length l) l
 unfoldable pub ascii_run : List ℕ → ℕ
 ascii_run [] = 0
 ascii_run (b ∷ l) = cond (ltb b 0x80) (suc (ascii_run l)) 0
-
--- where the run of ASCII bytes from a place ends
-abbrev pub ascii_end : List ℕ → ℕ → ℕ
-ascii_end s at = at + ascii_run (drop at s)
 
 -- whether every byte is ASCII
 unfoldable pub is_ascii : List ℕ → Bool

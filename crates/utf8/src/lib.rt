@@ -2,7 +2,8 @@
 #![tactic(auto)]
 
 ghost use Rattle.std.specs.Prelude.{◌≡◌, ◌<◌, length, drop};
-ghost use Rattle.utf8.specs.Utf8.{table, row_of, sequence, ascii_end, is_ascii, well_formed};
+ghost use Rattle.std.specs.Option.{option_copied};
+ghost use Rattle.utf8.specs.Utf8.{table, row_of, sequence, ascii_run, is_ascii, well_formed};
 
 // A row of the table: how many bytes, and the least and the greatest byte at each place.
 #[derive(Clone, Copy)]
@@ -60,98 +61,63 @@ pub const TABLE_3_7: [Row; 9] = [
     },
 ];
 
-// The row whose first place takes b, or a row of no places. It is handed on field by field: the compiler then does not copy
-// the bounds of all rows to the stack.
-fn row_of(b: u8) -> Row
-    ensures { result ≡ row_of table b }
+// The row whose first place takes b, where it stands in the table: nothing of it is copied.
+fn row_of(b: u8) -> Option<&'static Row>
+    ensures { option_copied result ≡ row_of table b }
 {
-    let mut i: usize = 0;
-    while i < 9 {
-        let row = TABLE_3_7[i];
-        let low = row.low[0];
-        let high = row.high[0];
-        if (low <= b) & (b <= high) {
-            return Row {
-                count: row.count,
-                low: row.low,
-                high: row.high,
-            };
-        }
-        i += 1;
-    }
-    Row {
-        count: 0,
-        low: [0, 0, 0, 0],
-        high: [0, 0, 0, 0],
-    }
+    let rows: &'static [Row] = &TABLE_3_7;
+    rows.iter()
+        .find(|row| (row.low[0] <= b) & (b <= row.high[0]))
 }
 
-// How many bytes the well-formed sequence at a place has, or 0.
-fn sequence_at(s: &[u8], at: usize) -> usize
-    requires { at < length s.now }
-    ensures { result ≡ sequence (drop at s.now) }
+// How many bytes the well-formed sequence at the start has, if there is one.
+fn sequence(s: &[u8]) -> Option<usize>
+    requires { 0 < length s.now }
+    ensures { result ≡ sequence s.now }
 {
-    let row = row_of(s[at]);
+    let row = row_of(s[0])?;
     let count = row.count;
-    if count == 0 {
-        return 0;
+    if s.len() < count {
+        return None;
     }
-    if s.len() - at < count {
-        return 0;
-    }
-    let mut j: usize = 1;
-    while j < count {
-        let b = s[at + j];
-        let low = row.low[j];
-        let high = row.high[j];
-        if b < low {
-            return 0;
+    for j in 1..count {
+        let b = s[j];
+        let fits = (row.low[j] <= b) & (b <= row.high[j]);
+        if !fits {
+            return None;
         }
-        if high < b {
-            return 0;
-        }
-        j += 1;
     }
-    count
+    Some(count)
 }
 
-// Where the run of ASCII bytes from a place ends.
-fn ascii_end(s: &[u8], at: usize) -> usize
-    ensures { result ≡ ascii_end s.now at }
+// What follows the ASCII bytes at the start.
+fn after_ascii(s: &[u8]) -> &[u8]
+    ensures { result.now ≡ drop (ascii_run s.now) s.now }
 {
-    let mut i = at;
-    while i < s.len() {
-        if 0x80 <= s[i] {
-            return i;
-        }
-        i += 1;
-    }
-    i
+    let run = s.iter().position(|b| 0x80 <= *b).unwrap_or(s.len());
+    &s[run..]
 }
 
 pub fn well_formed(s: &[u8]) -> bool
     ensures { result ≡ well_formed s.now }
 {
-    let mut at = ascii_end(s, 0);
-    while at < s.len() {
-        let n = sequence_at(s, at);
-        if n == 0 {
+    let mut left = after_ascii(s);
+    while !left.is_empty() {
+        let Some(n) = sequence(left) else {
             return false;
-        }
-        at = ascii_end(s, at + n);
+        };
+        left = after_ascii(&left[n..]);
     }
     true
 }
 
-// No byte is 0x80 or above. Every byte is looked at, so that many can be compared at once.
+// No byte is 0x80 or above. Every byte is looked at, so that many can be compared at once: that is why this is no `all`.
 pub fn is_ascii(s: &[u8]) -> bool
     ensures { result ≡ is_ascii s.now }
 {
     let mut high = false;
-    let mut i = 0;
-    while i < s.len() {
-        high = high | (0x80 <= s[i]);
-        i += 1;
+    for b in s {
+        high |= 0x80 <= *b;
     }
     !high
 }

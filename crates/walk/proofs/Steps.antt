@@ -7,7 +7,6 @@ use mathlib.Core.List.{List}
 use lib.ListN.{length}
 use Rattle.core_read.specs.declared.cursor.ByteOrder.{ByteOrder}
 use Rattle.strip_read.specs.Read.{read_section}
-use Rattle.strip_header.specs.declared.Section.{Section}
 use Rattle.strip_header.specs.declared.Section.TheVariants as Sections
 use Rattle.strip_records.specs.Whole.{Lists}
 use Rattle.strip_read.specs.declared.read.SectionRead.{SectionRead}
@@ -15,27 +14,37 @@ use Rattle.strip_read.proofs.Moves.{Onward, section_on}
 use Rattle.walk.specs.Walk.{place_after, step_at, moved_on}
 use Rattle.walk.specs.declared.Step.{Step}
 use Rattle.walk.specs.declared.Walk.{Walk}
+use Rattle.std.specs.Prelude.{Err, Ok}
+use Rattle.strip_header.specs.Header.{SectionAnswer}
 
 abbrev step_of : SectionRead → ℕ → Step
 step_of r n = record { answer = r.answer; «record» = r.«record»; place = n }
 
 -- a section read with the place after its answer is the step
-pub step_made : (order : ByteOrder) (s : List ℕ) (p : ℕ) (l : Lists) (r : SectionRead) (n : ℕ) → r ≡ read_section order s p l → n ≡ place_after p r.answer
+step_made : (order : ByteOrder) (s : List ℕ) (p : ℕ) (l : Lists) (r : SectionRead) (n : ℕ) → r ≡ read_section order s p l → n ≡ place_after p r.answer
     → step_of r n ≡ step_at order s p l
 unfolding step_at
 step_made order s p l r n e f = ap (step_of r) f ∙ ap (λ (x : SectionRead). step_of x (place_after p x.answer)) e
+
+-- and so is a section read by a walk that has moved on
+pub next_made : (order : ByteOrder) (w v : Walk) (l : Lists) (r : SectionRead) → r ≡ read_section order w.«data».now w.place l → v ≡ moved_on order w l
+    → step_of r v.place ≡ step_at order w.«data».now w.place l
+unfolding moved_on
+next_made order w v l r e f =
+    let place : v.place ≡ place_after w.place r.answer = ap (λ (x : Walk). x.place) f ∙ ap (λ (x : SectionRead). place_after w.place x.answer) (sym e) in
+    step_made order w.«data».now w.place l r v.place e place
 
 -- ---- a walk of n bytes at p stays, or moves on by a section within them
 
 abbrev pub Moved : ℕ → ℕ → ℕ → Type 0
 Moved n p q = (q ≡ p) ⊎ ((p + 8 ≤ q) × (q ≤ n))
 
-after_moved : (n p : ℕ) (x : Section) → Onward n p x → Moved n p (place_after p x)
+after_moved : (n p : ℕ) (x : SectionAnswer) → Onward n p x → Moved n p (place_after p x)
 unfolding Onward place_after
-after_moved n p Sections.End h = inl refl
-after_moved n p (Sections.Passed next) h = inr h
-after_moved n p (Sections.Pane end next reach) h = inr (h.0, h.1)
-after_moved n p (Sections.Refused why) h = inl refl
+after_moved n p (Ok Sections.End) h = inl refl
+after_moved n p (Ok (Sections.Passed next)) h = inr h
+after_moved n p (Ok (Sections.Pane end next reach)) h = inr (h.0, h.1)
+after_moved n p (Err why) h = inl refl
 
 -- A WALK ENDS: each step stays where it is, or moves on by 8 bytes or more, within the strip
 pub step_moved : (order : ByteOrder) (s : List ℕ) (p : ℕ) (l : Lists) → Moved (length s) p (step_at order s p l).place

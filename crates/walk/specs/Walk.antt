@@ -1,20 +1,20 @@
 -- The walk over a strip: the section at its place, and the place that it hands on.
-use Rattle.std.specs.Prelude.{ℕ, List}
+use Rattle.std.specs.Prelude.{ℕ, List, Err, Ok}
 use Rattle.core_read.specs.declared.cursor.ByteOrder.{ByteOrder}
 use Rattle.strip_read.specs.Read.{read_section}
 use Rattle.strip_records.specs.Whole.{Lists}
-use Rattle.strip_header.specs.declared.Section.{Section}
-use Rattle.strip_header.specs.declared.Section.TheVariants.{End, Passed, Pane, Refused}
+use Rattle.strip_header.specs.declared.Section.TheVariants.{End, Passed, Pane}
 use Rattle.strip_read.specs.declared.read.SectionRead.{SectionRead}
 use Rattle.walk.specs.declared.Step.{Step}
 use Rattle.walk.specs.declared.Walk.{Walk}
+use Rattle.strip_header.specs.Header.{SectionAnswer}
 
 -- the next section's place after a pane or a passed section; at the end, and where the read is refused, the place stays
-unfoldable pub place_after : ℕ → Section → ℕ
-place_after p End = p
-place_after p (Passed next) = next
-place_after p (Pane end next reach) = next
-place_after p (Refused why) = p
+unfoldable pub place_after : ℕ → SectionAnswer → ℕ
+place_after p (Ok End) = p
+place_after p (Ok (Passed next)) = next
+place_after p (Ok (Pane end next reach)) = next
+place_after p (Err why) = p
 
 -- THE STEP OF A WALK whose place is p: the section read at p of the strip s, with the lists l lent, and the place after it
 unfoldable pub step_at : ByteOrder → List ℕ → ℕ → Lists → Step

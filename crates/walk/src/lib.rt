@@ -8,6 +8,7 @@ ghost use Rattle.strip_read.specs.Read.{read_section, lists_after};
 ghost use Rattle.walk.specs.Walk.{place_after, step_at, moved_on};
 
 use core_read::cursor::ByteOrder;
+use core_read::error::Refusal;
 use strip::read::{Section, SectionRead};
 use strip::record::Record;
 
@@ -20,28 +21,21 @@ pub struct Walk<'a> {
 // What the section read answers, and the place that the walk hands on.
 #[derive(Clone, Copy)]
 pub struct Step {
-    pub answer: Section,
+    pub answer: Result<Section, Refusal>,
     pub record: Record,
     pub place: usize,
 }
 
-fn place_after(place: usize, answer: Section) -> usize
+#[tactic(auto, unfolding(crate::specs::Walk::place_after))]
+fn place_after(place: usize, answer: Result<Section, Refusal>) -> usize
     ensures { result ≡ place_after place answer }
 {
     match answer {
-        Section::End => place,
-        Section::Passed { next } => next,
-        Section::Pane { next, .. } => next,
-        Section::Refused(_) => place,
+        Ok(Section::End) => place,
+        Ok(Section::Passed { next }) => next,
+        Ok(Section::Pane { next, .. }) => next,
+        Err(_) => place,
     }
-}
-
-// The place that a section read at a place leaves the walk at.
-fn place_of(place: usize, read: SectionRead) -> usize
-    ensures { result ≡ place_after place read.answer }
-{
-    let answer = read.answer;
-    place_after(place, answer)
 }
 
 impl<'a> Walk<'a> {
@@ -53,6 +47,7 @@ impl<'a> Walk<'a> {
     }
 
     // The section at the walk's place. The walk moves on to the next; it stays at the end, and where the read is refused.
+    // No `Iterator` has this `next`: it is lent four lists anew at each step, and says which section it met where it stays.
     pub fn next<'s, 'b, 'c, 'd, 'e>(
         &'s mut self,
         order: ByteOrder,
@@ -65,7 +60,7 @@ impl<'a> Walk<'a> {
     {
         let place = self.place;
         let read = strip::read::read_section(order, self.data, place, quads, units, lines, frames);
-        self.place = place_of(place, read);
+        self.place = place_after(place, read.answer);
         read
     }
 }
@@ -82,13 +77,11 @@ pub fn section_after(
 ) -> Step
     ensures { (result ≡ step_at order «data».now place (lists quads.old units.old lines.old frames.old)) × (lists quads.new units.new lines.new frames.new ≡ lists_after order «data».now place (lists quads.old units.old lines.old frames.old)) × (section_by_number result.answer ≡ section_by_number (step_at order «data».now place (lists quads.old units.old lines.old frames.old)).answer) }
 {
-    let read = strip::read::read_section(order, data, place, quads, units, lines, frames);
-    let answer = read.answer;
-    let record = read.record;
-    let next = place_after(place, answer);
+    let mut walk = Walk::over(data, place);
+    let read = walk.next(order, quads, units, lines, frames);
     Step {
-        answer,
-        record,
-        place: next,
+        answer: read.answer,
+        record: read.record,
+        place: walk.place,
     }
 }

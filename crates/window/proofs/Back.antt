@@ -6,12 +6,11 @@ use native.Mathlib.Omega.{arith}
 use mathlib.Core.List.{List}
 use lib.ListN.{length, replicate, length-replicate}
 use Rattle.core_read.specs.Bytes.{bytes_of_all}
-use Rattle.core_read.specs.Taken.{Taken, advanced, moved, sought}
+use Rattle.core_read.specs.Taken.{advanced, moved, sought, Place}
+use Rattle.core_read.specs.declared.cursor.Taken.{Taken}
 use Rattle.core_read.specs.Lists.{numbers_taken}
 use Rattle.core_read.specs.declared.cursor.ByteOrder.{ByteOrder}
 use Rattle.core_read.specs.declared.cursor.Cursor.{Cursor}
-use Rattle.core_read.specs.declared.cursor.Place.{Place}
-use Rattle.core_read.specs.declared.cursor.Place.TheVariants.{At}
 use Rattle.core_read.proofs.Cursors.{pos_advanced, pos_moved, advanced_zero, reach_moved, reach_level}
 use Rattle.core_read.proofs.Runs.{seek_to, seek_here}
 use Rattle.core_read.proofs.Back.{Holds, Fit, holds_fits, length_all, cut, numbers_back}
@@ -22,12 +21,13 @@ use Rattle.window_write.specs.Write.{GoodWindow, content_padding, table_offset, 
 use Rattle.window.specs.Same.{SameWindow}
 use Rattle.window_read.specs.Typed.{TypedWindow}
 use Rattle.window_read.specs.declared.WindowPane.{WindowPane}
-use Rattle.window_head.specs.declared.HeadTaken.{HeadTaken}
 use Rattle.window_read.specs.declared.read.ContentTaken.{ContentTaken}
 use Rattle.window_read.specs.declared.read.WindowTaken.{WindowTaken}
 use Rattle.window.proofs.Lengths.{length_offsets, length_head, length_content}
 use Rattle.window.proofs.Fields.{read_back_content, frames_fit, head_of, numbers_at_lem, head_at, content_at, frames_at}
 use Rattle.ui2d.proofs.QuadRuns.{count_fit, eight}
+use Rattle.std.specs.Prelude.{Ok}
+use Rattle.window_head.specs.declared.WindowHead.{WindowHead}
 
 -- what reading a window that was written gives: the same, with the counts of its lists
 unfoldable pub read_back_window : WindowPane → List ℕ → List ℕ → WindowPane
@@ -66,7 +66,7 @@ read_same x quads frames = record {
 -- ---- the whole
 
 -- the steps of a read, as far as they are known
-window_run : (order : ByteOrder) (s : List ℕ) (p : Place) (body : ℕ) (head : HeadTaken) (content : ContentTaken) (quads table frames : Taken (List ℕ)) (toContent to_table end : Place)
+window_run : (order : ByteOrder) (s : List ℕ) (p : Place) (body : ℕ) (head : Taken WindowHead) (content : ContentTaken) (quads table frames : Taken (List ℕ)) (toContent to_table end : Place)
     → head_taken order s p ≡ head → sought s head.then (body - 8 + head.value.content_offset) ≡ toContent → content_taken order s toContent ≡ content
     → numbers_taken order 4 (8 * content.value.quad_count) s content.then ≡ quads → sought s quads.then (body - 8 + head.value.table_offset) ≡ to_table
     → numbers_taken order 4 head.value.frame_count s to_table ≡ table → frames_taken order s (body - 8) table.value table.then ≡ frames
@@ -87,9 +87,9 @@ unfolding table_offset content_padding
 small body q f h k = omega (arith, padding_small (body + 124 + 4 * q))
 
 table_at : {s : List ℕ} (d : Cursor) (order : ByteOrder) (a n : ℕ) → Fit 4 (frame_offsets a n) → Holds s d.pos (bytes_of_all order 4 (frame_offsets a n))
-    → ◌≡◌ {A = Taken (List ℕ)} (numbers_taken order 4 n s (At d)) (record { value = frame_offsets a n; then = At (advanced d (4 * n)) })
+    → ◌≡◌ {A = Taken (List ℕ)} (numbers_taken order 4 n s (Ok d)) (record { value = frame_offsets a n; then = Ok (advanced d (4 * n)) })
 table_at {s} d order a n f h =
-    subst (λ (m : ℕ). ◌≡◌ {A = Taken (List ℕ)} (numbers_taken order 4 m s (At d)) (record { value = frame_offsets a n; then = At (advanced d (4 * m)) }))
+    subst (λ (m : ℕ). ◌≡◌ {A = Taken (List ℕ)} (numbers_taken order 4 m s (Ok d)) (record { value = frame_offsets a n; then = Ok (advanced d (4 * m)) }))
     (length_offsets a n) (numbers_back d order 4 (frame_offsets a n) f h)
 
 offsets_fit : (a n : ℕ) → a + 4 * n < 256 ^ 4 → Fit 4 (frame_offsets a n)
@@ -151,19 +151,19 @@ module _ {s : List ℕ} (c : Cursor) (order : ByteOrder) (body : ℕ) (x : Windo
   at_parts : Parts s c order body x quads frames
   at_parts = parts c order body x quads frames t a
 
-  content_here : ◌≡◌ {A = ContentTaken} (content_taken order s (At (advanced c 28))) (record { value = read_back_content x.content quads; then = At (advanced c 48) })
+  content_here : ◌≡◌ {A = ContentTaken} (content_taken order s (Ok (advanced c 28))) (record { value = read_back_content x.content quads; then = Ok (advanced c 48) })
       × Holds s (c.pos + 48) (bytes_of_all order 4 quads)
   content_here =
       content_at c order x.content quads (record { colors = t.colors; material = t.material }) (count_fit (length quads) g.most_quads) at_parts.content
 
-  quads_here : ◌≡◌ {A = Taken (List ℕ)} (numbers_taken order 4 (8 * (length quads / 8)) s (At (advanced c 48)))
-      (record { value = quads; then = At (advanced c (48 + 4 * length quads)) })
+  quads_here : ◌≡◌ {A = Taken (List ℕ)} (numbers_taken order 4 (8 * (length quads / 8)) s (Ok (advanced c 48)))
+      (record { value = quads; then = Ok (advanced c (48 + 4 * length quads)) })
   quads_here = rw (eight (length quads) g.whole_quads) (numbers_at_lem c order 48 4 quads fq content_here.1)
 
-  table_here : ◌≡◌ {A = Taken (List ℕ)} (numbers_taken order 4 (length frames / 2) s (At (at_table c body (length quads))))
+  table_here : ◌≡◌ {A = Taken (List ℕ)} (numbers_taken order 4 (length frames / 2) s (Ok (at_table c body (length quads))))
       (record {
         value = frame_offsets (table_offset body (length quads) + 4 * (length frames / 2)) (length frames / 2);
-        then = At (advanced (at_table c body (length quads)) (4 * (length frames / 2)));
+        then = Ok (advanced (at_table c body (length quads)) (4 * (length frames / 2)));
       })
   unfolding table_offset
   table_here =
@@ -173,8 +173,8 @@ module _ {s : List ℕ} (c : Cursor) (order : ByteOrder) (body : ℕ) (x : Windo
       table_at (at_table c body (length quads)) order first m f (rw pos_moved at_parts.table)
 
   frames_here : ◌≡◌ {A = Taken (List ℕ)}
-      (frames_taken order s (body - 8) (frame_offsets (table_offset body (length quads) + 4 * (length frames / 2)) (length frames / 2)) (At (advanced (at_table c body (length quads)) (4 * (length frames / 2)))))
-      (record { value = frames; then = At (advanced (at_table c body (length quads)) (4 * (length frames / 2) + 4 * (length frames / 2))) })
+      (frames_taken order s (body - 8) (frame_offsets (table_offset body (length quads) + 4 * (length frames / 2)) (length frames / 2)) (Ok (advanced (at_table c body (length quads)) (4 * (length frames / 2)))))
+      (record { value = frames; then = Ok (advanced (at_table c body (length quads)) (4 * (length frames / 2) + 4 * (length frames / 2))) })
   unfolding table_offset
   frames_here =
       let m = length frames / 2 in
@@ -184,12 +184,12 @@ module _ {s : List ℕ} (c : Cursor) (order : ByteOrder) (body : ℕ) (x : Windo
       frames_at d order (4 * m) (body - 8) (table_offset body (length quads) + 4 * m) frames (omega (arith, e, here, low)) ff g.flips g.whole_frames h
 
   -- THE WINDOW
-  pub window_back : ◌≡◌ {A = WindowTaken} (window_taken order s (At c) body) (record {
+  pub window_back : ◌≡◌ {A = WindowTaken} (window_taken order s (Ok c) body) (record {
     window = read_back_window x quads frames;
-    quads = At (advanced c 48);
-    table = At (at_table c body (length quads));
-    frames = At (advanced (at_table c body (length quads)) (4 * (length frames / 2)));
-    then = At (after_window c body (length quads) (length frames));
+    quads = Ok (advanced c 48);
+    table = Ok (at_table c body (length quads));
+    frames = Ok (advanced (at_table c body (length quads)) (4 * (length frames / 2)));
+    then = Ok (after_window c body (length quads) (length frames));
   })
   unfolding window_of read_back_window read_back_content table_offset
   window_back =
@@ -198,14 +198,14 @@ module _ {s : List ℕ} (c : Cursor) (order : ByteOrder) (body : ℕ) (x : Windo
       let d = at_table c body (length quads) in
       let end = holds_fits _ at_parts.frames in
       let fit : table_offset body (length quads) + 4 * m + 4 * m < 256 ^ 4 = small body (length quads) (length frames) g.most_quads g.most_frames in
-      window_run order s (At c) body (record { value = head_of x m (table_offset body (length quads)); then = At (advanced c 28) })
-      (record { value = read_back_content x.content quads; then = At (advanced c 48) })
-      (record { value = quads; then = At (advanced c (48 + 4 * length quads)) })
-      (record { value = frame_offsets (table_offset body (length quads) + 4 * m) m; then = At (advanced d (4 * m)) })
-      (record { value = frames; then = At (advanced d (4 * m + 4 * m)) })
-      (At (advanced c 28))
-      (At d)
-      (At (after_window c body (length quads) (length frames)))
+      window_run order s (Ok c) body (record { value = head_of x m (table_offset body (length quads)); then = Ok (advanced c 28) })
+      (record { value = read_back_content x.content quads; then = Ok (advanced c 48) })
+      (record { value = quads; then = Ok (advanced c (48 + 4 * length quads)) })
+      (record { value = frame_offsets (table_offset body (length quads) + 4 * m) m; then = Ok (advanced d (4 * m)) })
+      (record { value = frames; then = Ok (advanced d (4 * m + 4 * m)) })
+      (Ok (advanced c 28))
+      (Ok d)
+      (Ok (after_window c body (length quads) (length frames)))
       (rw (advanced_zero c) at (head_at c order x m (table_offset body (length quads)) t (frames_fit (length frames) g.most_frames) (omega (arith, fit)) at_parts.head))
       (seek_here s (advanced c 28) (body - 8 + 112) (omega (arith, pos_advanced c 28, here, low)) (omega (arith, pos_advanced c 28, end)))
       content_here.0
@@ -216,17 +216,17 @@ module _ {s : List ℕ} (c : Cursor) (order : ByteOrder) (body : ℕ) (x : Windo
       (seek_to s (advanced d (4 * m + 4 * m)) (body + 104) (body + 104) refl (omega (arith, here, end)))
 
   -- the numbers of its lists
-  pub quads_back : window_quads order s (window_taken order s (At c) body) ≡ quads
+  pub quads_back : window_quads order s (window_taken order s (Ok c) body) ≡ quads
   unfolding window_quads read_back_window read_back_content
   quads_back = ap (window_quads order s) window_back ∙ ap (λ (r : Taken (List ℕ)). r.value) quads_here
 
-  pub frames_back : window_frames order s (window_taken order s (At c) body) body ≡ frames
+  pub frames_back : window_frames order s (window_taken order s (Ok c) body) body ≡ frames
   unfolding window_frames read_back_window
   frames_back =
       ap (λ (w : WindowTaken). window_frames order s w body) window_back
-      ∙ ap (λ (r : Taken (List ℕ)). (frames_taken order s (body - 8) r.value (At (advanced (at_table c body (length quads)) (4 * (length frames / 2))))).value) table_here
+      ∙ ap (λ (r : Taken (List ℕ)). (frames_taken order s (body - 8) r.value (Ok (advanced (at_table c body (length quads)) (4 * (length frames / 2))))).value) table_here
       ∙ ap (λ (r : Taken (List ℕ)). r.value) frames_here
 
   -- what was read is equal to what was written
-  pub same_back : SameWindow (window_taken order s (At c) body).window (window_quads order s (window_taken order s (At c) body)) (window_frames order s (window_taken order s (At c) body) body) x quads frames
+  pub same_back : SameWindow (window_taken order s (Ok c) body).window (window_quads order s (window_taken order s (Ok c) body)) (window_frames order s (window_taken order s (Ok c) body) body) x quads frames
   same_back = rw (quads_back, frames_back, window_back) (read_same x quads frames)

@@ -5,16 +5,11 @@ use native.Mathlib.Omega.{arith}
 use mathlib.Core.List.{List}
 use lib.ListN.{length}
 use Rattle.pane_checks.proofs.Cleared.{texts_cleared}
-use Rattle.core_read.specs.Taken.{over}
-use Rattle.core_checks.specs.Checks.{body_start, list_checked, end_checked, reach_checked, parsed_of, unless_refused}
+use Rattle.core_read.specs.Taken.{over, Place}
+use Rattle.core_checks.specs.Checks.{body_start, list_checked, end_checked, reach_checked, unless_refused, Extent}
 use Rattle.core_read.specs.declared.error.Refusal.{Refusal}
 use Rattle.core_read.specs.declared.cursor.ByteOrder.{ByteOrder}
 use Rattle.core_read.specs.declared.cursor.Cursor.{Cursor}
-use Rattle.core_read.specs.declared.cursor.Place.{Place}
-use Rattle.core_read.specs.declared.cursor.Place.TheVariants.{At, Refused}
-use Rattle.core_checks.specs.declared.checks.Extent.{Extent}
-use Rattle.core_checks.specs.declared.checks.Extent.TheVariants.{Buffer}
-use Rattle.core_checks.specs.declared.checks.Parsed.{Parsed}
 use Rattle.core_checks.proofs.Checked.{BodyOk, body_started, list_cleared, end_cleared, end_stays, reach_cleared, reach_stays}
 use Rattle.pane_read.specs.Pane.{pane_taken}
 use Rattle.pane_checks.specs.Checks.{texts_checked, names_checked, reserve_checked}
@@ -31,18 +26,19 @@ use Rattle.window.specs.declared.body.WindowMeasured.{WindowMeasured}
 use Rattle.window.specs.declared.body.WindowParsed.{WindowParsed}
 use Rattle.window_read.proofs.Run.{window_stays, window_ahead}
 use Rattle.window.proofs.Cleared.{window_cleared}
+use Rattle.std.specs.Prelude.{Err, None, Ok}
 
 -- ---- reading
 
 -- a run that was refused stays so
-pub measured_stays : (order : ByteOrder) (s : List ℕ) (why : Refusal) (body : ℕ) (x : Extent) → (window_measured order s (Refused why) body x).then ≡ Refused why
+pub measured_stays : (order : ByteOrder) (s : List ℕ) (why : Refusal) (body : ℕ) (x : Extent) → (window_measured order s (Err why) body x).then ≡ Err why
 unfolding window_measured
 measured_stays order s why body x =
-    rw (pane_stays order s why, window_stays order s why body, texts_stay why (pane_taken order s (Refused why)).pane body, reach_stays why x)
+    rw (pane_stays order s why, window_stays order s why body, texts_stay why (pane_taken order s (Err why)).pane body, reach_stays why x)
 
 -- where nothing was refused the lists may be filled
 pub measured_ready : (order : ByteOrder) (s : List ℕ) (p : Place) (body : ℕ) (x : Extent) (m : WindowMeasured) → m ≡ window_measured order s p body x
-    → (c : Cursor) → m.then ≡ At c → Ahead s m.own.quads (4 * (8 * m.own.window.content.quad_count))
+    → (c : Cursor) → m.then ≡ Ok c → Ahead s m.own.quads (4 * (8 * m.own.window.content.quad_count))
 unfolding window_measured
 measured_ready order s p body x m e c h =
     let b = pane_taken order s p in
@@ -54,28 +50,28 @@ measured_ready order s p body x m e c h =
 module _ (m : WindowMeasured) where
   -- the lists after it
   module _ (order : ByteOrder) (s : List ℕ) (body : ℕ) (quads frames : List ℕ) where
-    pub filled : (c : Cursor) → m.then ≡ At c → (quads' frames' : List ℕ) → quads' ≡ over (window_quads order s m.own) quads → frames' ≡ over (window_frames order s m.own body) frames
+    pub filled : (c : Cursor) → m.then ≡ Ok c → (quads' frames' : List ℕ) → quads' ≡ over (window_quads order s m.own) quads → frames' ≡ over (window_frames order s m.own body) frames
         → (quads' ≡ quads_filled order s m quads) × (frames' ≡ frames_filled order s m body frames)
     unfolding quads_filled frames_filled unless_refused
     filled c h quads' frames' k l = rw h (k, l)
 
-    pub not_filled : (why : Refusal) → m.then ≡ Refused why → (quads ≡ quads_filled order s m quads) × (frames ≡ frames_filled order s m body frames)
+    pub not_filled : (why : Refusal) → m.then ≡ Err why → (quads ≡ quads_filled order s m quads) × (frames ≡ frames_filled order s m body frames)
     unfolding quads_filled frames_filled unless_refused
     not_filled why h = rw h (refl, refl)
 
   -- what a read gives
-  pub given_got : (c : Cursor) → m.then ≡ At c → (answer : Parsed) → answer ≡ parsed_of (At c)
+  pub given_got : (c : Cursor) → m.then ≡ Ok c → (answer : Place) → answer ≡ Ok c
       → ◌≡◌ {A = WindowParsed} (record { answer = answer; base = m.base; window = m.own.window }) (window_given m)
   unfolding window_given unless_refused
   given_got c h answer a = rw (h, a)
 
-  pub given_refused : (why : Refusal) → m.then ≡ Refused why → (r : WindowParsed) → Blank why r → r ≡ window_given m
-  unfolding window_given parsed_of unless_refused
+  pub given_refused : (why : Refusal) → m.then ≡ Err why → (r : WindowParsed) → Blank why r → r ≡ window_given m
+  unfolding window_given unless_refused
   given_refused why h r k = rw (h, ← k.answer, ← k.base, ← k.window)
 
 -- what checks 1, 2 and 3 tell
 pub started : (n body q f : ℕ) (p₁ p₂ p₃ : Place) → p₁ ≡ body_start n body → p₂ ≡ list_checked p₁ 1 2040 q → p₃ ≡ list_checked p₂ 4 510 f
-    → (c : Cursor) → p₃ ≡ At c → ((8 ≤ body) × (body < 2 ^ 32)) × ((2040 ≤ q) × (510 ≤ f))
+    → (c : Cursor) → p₃ ≡ Ok c → ((8 ≤ body) × (body < 2 ^ 32)) × ((2040 ≤ q) × (510 ≤ f))
 started n body q f p₁ p₂ p₃ e₁ e₂ e₃ c h =
     let (h₂, hf) = list_cleared p₂ 4 510 f c (sym e₃ ∙ h) in
     let (h₁, hq) = list_cleared p₁ 1 2040 q c (sym e₂ ∙ h₂) in
@@ -93,17 +89,17 @@ module _ (order : ByteOrder) (s : List ℕ) (body : ℕ) (quads frames : List �
   unfolding read_start
   start = rw (← e₁, ← e₂, ← e₃)
 
-  pub parsed : (c : Cursor) (r : WindowParsed) (quads' frames' : List ℕ) → p₃ ≡ At c
-      → (r ≡ window_read order s (At c) body Buffer) × ((quads' ≡ read_quads order s (At c) body Buffer quads) × (frames' ≡ read_frames order s (At c) body Buffer frames))
+  pub parsed : (c : Cursor) (r : WindowParsed) (quads' frames' : List ℕ) → p₃ ≡ Ok c
+      → (r ≡ window_read order s (Ok c) body None) × ((quads' ≡ read_quads order s (Ok c) body None quads) × (frames' ≡ read_frames order s (Ok c) body None frames))
       → Called order s body quads frames r quads' frames'
   unfolding window_parsed parsed_quads parsed_frames
   parsed c r quads' frames' h k = rw (start, h) k
 
-  pub parsed_refused : (why : Refusal) (r : WindowParsed) → p₃ ≡ Refused why → Blank why r → Called order s body quads frames r quads frames
+  pub parsed_refused : (why : Refusal) (r : WindowParsed) → p₃ ≡ Err why → Blank why r → Called order s body quads frames r quads frames
   unfolding window_parsed parsed_quads parsed_frames window_read read_quads read_frames
   parsed_refused why r h k =
-      let m = window_measured order s (Refused why) body Buffer in
-      let g = measured_stays order s why body Buffer in
+      let m = window_measured order s (Err why) body None in
+      let g = measured_stays order s why body None in
       rw (start, h) (given_refused m why g r k, not_filled m order s body quads frames why g)
 
 -- ---- writing
@@ -115,7 +111,7 @@ pub record Accepts (b : Pane) (quads frames : List ℕ) (n body : ℕ) : Type 0 
   pub lists : GoodWindow quads frames
   pub fits : body + body_length body quads frames ≤ n
 
-lists_cleared : (b : Pane) (quads frames : List ℕ) (n body : ℕ) (c : Cursor) → window_checked (reserve_checked (names_checked (body_start n body) b) b) quads frames ≡ At c
+lists_cleared : (b : Pane) (quads frames : List ℕ) (n body : ℕ) (c : Cursor) → window_checked (reserve_checked (names_checked (body_start n body) b) b) quads frames ≡ Ok c
     → BodyOk n body × Good b × GoodWindow quads frames
 lists_cleared b quads frames n body c e =
     let (h, l) = window_cleared _ quads frames c e in
@@ -123,29 +119,9 @@ lists_cleared b quads frames n body c e =
     let (s, o) = body_started n body c k in
     (o, g, l)
 
-pub write_cleared : (b : Pane) (quads frames : List ℕ) (n body : ℕ) (c : Cursor) → window_write_checked b quads frames n body ≡ At c → Accepts b quads frames n body
+pub write_cleared : (b : Pane) (quads frames : List ℕ) (n body : ℕ) (c : Cursor) → window_write_checked b quads frames n body ≡ Ok c → Accepts b quads frames n body
 unfolding window_write_checked
 write_cleared b quads frames n body c e =
     let (h, f) = end_cleared _ _ n c e in
     let (o, g, l) = lists_cleared b quads frames n body c h in
     record { place = o; good = g; lists = l; fits = f }
-
-module _ (b : Pane) (quads frames : List ℕ) (n body : ℕ) (p₁ p₂ p₃ p₄ : Place)
-    (e₁ : p₁ ≡ body_start n body) (e₂ : p₂ ≡ names_checked p₁ b) (e₃ : p₃ ≡ reserve_checked p₂ b) (e₄ : p₄ ≡ window_checked p₃ quads frames) where
-  lists : window_checked (reserve_checked (names_checked (body_start n body) b) b) quads frames ≡ p₄
-  lists = rw (← e₁, ← e₂, ← e₃, ← e₄)
-
-  -- the numbers are small
-  pub bounds : (c : Cursor) → p₄ ≡ At c → (body < 2 ^ 32) × (length quads ≤ 2040) × (length frames ≤ 510)
-  bounds c h =
-      let (o, g, l) = lists_cleared b quads frames n body c (lists ∙ h) in
-      (omega (arith, o.most, o.within), l.most_quads, l.most_frames)
-
-  pub checked_end : (c : Cursor) (w : ℕ) (r : Place) → p₄ ≡ At c → w ≡ window_length body (length quads) (length frames)
-      → r ≡ end_checked (At c) (body + (76 + w)) n → r ≡ window_write_checked b quads frames n body
-  unfolding window_write_checked body_length
-  checked_end c w r h ew er = er ∙ rw (lists, h, ew)
-
-  pub checked_refused : (why : Refusal) → p₄ ≡ Refused why → Refused why ≡ window_write_checked b quads frames n body
-  unfolding window_write_checked
-  checked_refused why h = rw lists (end_stays p₄ _ n why h)

@@ -10,11 +10,11 @@ use lib.Dec.{lit≤}
 use mir.Syntax.{w16}
 use mir.Val.{SFits}
 use Rattle.core_read.specs.Bytes.{bytes_of_all, bits_of}
-use Rattle.core_read.specs.Taken.{Taken, advanced}
+use Rattle.core_read.specs.Taken.{advanced}
+use Rattle.core_read.specs.declared.cursor.Taken.{Taken}
 use Rattle.core_read.specs.Lists.{numbers_taken}
 use Rattle.core_read.specs.declared.cursor.ByteOrder.{ByteOrder}
 use Rattle.core_read.specs.declared.cursor.Cursor.{Cursor}
-use Rattle.core_read.specs.declared.cursor.Place.TheVariants.{At}
 use Rattle.core_read.proofs.Numbers.{length_bytes}
 use Rattle.core_read.proofs.Cursors.{pos_advanced, advanced_more}
 use Rattle.core_read.proofs.Runs.{seek_here}
@@ -31,12 +31,12 @@ use Rattle.window_write.specs.Write.{GoodFlips, encode_sides, encode_borders, en
 use Rattle.window_read.specs.Typed.{TypedWindow}
 use Rattle.window_read.specs.declared.WindowContent.{WindowContent}
 use Rattle.window_read.specs.declared.WindowPane.{WindowPane}
-use Rattle.window_head.specs.declared.SidesTaken.{SidesTaken}
 use Rattle.window_head.specs.declared.WindowHead.{WindowHead}
-use Rattle.window_head.specs.declared.HeadTaken.{HeadTaken}
 use Rattle.window_read.specs.declared.read.ContentTaken.{ContentTaken}
 use Rattle.window_read.specs.declared.read.FrameTaken.{FrameTaken}
 use Rattle.window.proofs.Lengths.{length_sides, length_borders, length_frame}
+use Rattle.std.specs.Prelude.{Ok}
+use Rattle.window_head.specs.declared.Sides.{Sides}
 
 -- what reading a content that was written gives: the same, with the count of its quads
 unfoldable pub read_back_content : WindowContent → List ℕ → WindowContent
@@ -78,12 +78,12 @@ head_of x n table = record {
 
 module _ {s : List ℕ} (c : Cursor) (order : ByteOrder) where
   pub numbers_at_lem : (k w : ℕ) (l : List ℕ) → Fit w l → Holds s (c.pos + k) (bytes_of_all order w l)
-      → ◌≡◌ {A = Taken (List ℕ)} (numbers_taken order w (length l) s (At (advanced c k))) (record { value = l; then = At (advanced c (k + w * length l)) })
+      → ◌≡◌ {A = Taken (List ℕ)} (numbers_taken order w (length l) s (Ok (advanced c k))) (record { value = l; then = Ok (advanced c (k + w * length l)) })
   numbers_at_lem k w l f a = numbers_back (advanced c k) order w l f (there c k _ a) ∙ rw advanced_more
 
   sides_at : (k : ℕ) (l r t b : ℤ) → SFits w16 l → SFits w16 r → SFits w16 t → SFits w16 b → Holds s (c.pos + k) (encode_sides order l r t b)
-      → ◌≡◌ {A = SidesTaken} (sides_taken order s (At (advanced c k)))
-      (record { value = record { left = l; right = r; top = t; bottom = b }; then = At (advanced c (k + 8)) })
+      → ◌≡◌ {A = Taken Sides} (sides_taken order s (Ok (advanced c k)))
+      (record { value = record { left = l; right = r; top = t; bottom = b }; then = Ok (advanced c (k + 8)) })
   unfolding sides_taken encode_sides
   sides_at k l r t b fl fr ft fb a =
       let e : k + 2 + 2 + 2 + 2 ≡ k + 8 = omega arith in
@@ -103,7 +103,7 @@ module _ {s : List ℕ} (c : Cursor) (order : ByteOrder) where
       )
 
   pub head_at : (x : WindowPane) (n table : ℕ) → TypedWindow x → n < 256 ^ 1 → table < 256 ^ 4 → Holds s (c.pos + 0) (encode_head order x n table)
-      → ◌≡◌ {A = HeadTaken} (head_taken order s (At (advanced c 0))) (record { value = head_of x n table; then = At (advanced c 28) })
+      → ◌≡◌ {A = Taken WindowHead} (head_taken order s (Ok (advanced c 0))) (record { value = head_of x n table; then = Ok (advanced c 28) })
   unfolding head_taken encode_head encode_borders
   head_at x n table t hn ht a =
       let (ab, r₂) = cut c 0 16 _ _ (length_borders order x) a in
@@ -126,7 +126,7 @@ module _ {s : List ℕ} (c : Cursor) (order : ByteOrder) where
   -- the content, at 28, without its quads
   pub content_at : (x : WindowContent) (quads : List ℕ) → TypedContent x → length quads / 8 < 256 ^ 1
       → Holds s (c.pos + 28) (encode_content order x quads)
-      → ◌≡◌ {A = ContentTaken} (content_taken order s (At (advanced c 28))) (record { value = read_back_content x quads; then = At (advanced c 48) })
+      → ◌≡◌ {A = ContentTaken} (content_taken order s (Ok (advanced c 28))) (record { value = read_back_content x quads; then = Ok (advanced c 48) })
       × Holds s (c.pos + 48) (bytes_of_all order 4 quads)
   unfolding content_taken encode_content read_back_content
   content_at x quads t hn a =
@@ -144,8 +144,8 @@ module _ {s : List ℕ} (c : Cursor) (order : ByteOrder) where
       )
 
   frame_at : (k material flip : ℕ) → material < 256 ^ 2 → flip ≤ 5 → Holds s (c.pos + k) (encode_frame order material flip)
-      → ◌≡◌ {A = FrameTaken} (frame_taken order s (At (advanced c k)))
-      (record { value = record { material_index = material; texture_flip_mode = flip_of flip }; then = At (advanced c (k + 4)) })
+      → ◌≡◌ {A = FrameTaken} (frame_taken order s (Ok (advanced c k)))
+      (record { value = record { material_index = material; texture_flip_mode = flip_of flip }; then = Ok (advanced c (k + 4)) })
   unfolding frame_taken encode_frame
   frame_at k material flip hm hf a =
       let e : k + 2 + 1 + 1 ≡ k + 4 = omega arith in
@@ -155,10 +155,10 @@ module _ {s : List ℕ} (c : Cursor) (order : ByteOrder) where
 
   -- the frames, one after the other from k on, at the offsets from a on
   pub frames_at : (k from a : ℕ) (l : List ℕ) → from + a ≡ c.pos + k → Fit 2 l → GoodFlips l → length l % 2 ≡ 0 → Holds s (c.pos + k) (encode_frames order l)
-      → ◌≡◌ {A = Taken (List ℕ)} (frames_taken order s from (frame_offsets a (length l / 2)) (At (advanced c k)))
-      (record { value = l; then = At (advanced c (k + 4 * (length l / 2))) })
+      → ◌≡◌ {A = Taken (List ℕ)} (frames_taken order s from (frame_offsets a (length l / 2)) (Ok (advanced c k)))
+      (record { value = l; then = Ok (advanced c (k + 4 * (length l / 2))) })
   unfolding frames_taken frame_offsets encode_frames GoodFlips Fit
-  frames_at k from a [] e f g h b = ap (λ (n : ℕ). record { value = []; then = At (advanced c n) }) (sym (add-zero k))
+  frames_at k from a [] e f g h b = ap (λ (n : ℕ). record { value = []; then = Ok (advanced c n) }) (sym (add-zero k))
   frames_at k from a (m ∷ []) e f g h b = absurd (omega arith)
   frames_at k from a (m ∷ x ∷ l) e f g h b =
       let n : suc (suc (length l)) / 2 ≡ suc (length l / 2) = omega arith in

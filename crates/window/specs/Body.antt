@@ -1,15 +1,10 @@
 -- The body calls of a window pane.
-use Rattle.std.specs.Prelude.{◌≡◌, ℕ, ◌+◌, List, ◌++◌, length}
+use Rattle.std.specs.Prelude.{◌≡◌, ℕ, ◌+◌, List, ◌++◌, length, Err, None}
 use Rattle.core_read.specs.Bytes.{splice}
-use Rattle.core_read.specs.Taken.{over}
-use Rattle.core_checks.specs.Checks.{body_start, list_checked, end_checked, reach_checked, parsed_of, unless_refused, written_of}
+use Rattle.core_read.specs.Taken.{over, Place}
+use Rattle.core_checks.specs.Checks.{body_start, list_checked, end_checked, reach_checked, unless_refused, written_of, Extent, Written}
 use Rattle.core_read.specs.declared.error.Refusal.{Refusal}
 use Rattle.core_read.specs.declared.cursor.ByteOrder.{ByteOrder}
-use Rattle.core_read.specs.declared.cursor.Place.{Place}
-use Rattle.core_checks.specs.declared.checks.Extent.{Extent}
-use Rattle.core_checks.specs.declared.checks.Extent.TheVariants.{Buffer}
-use Rattle.core_checks.specs.declared.checks.Parsed.TheVariants as Parseds
-use Rattle.core_checks.specs.declared.checks.Written.{Written}
 use Rattle.pane_read.specs.Pane.{pane_taken, blank_pane, encode_pane}
 use Rattle.pane_checks.specs.Checks.{texts_checked, names_checked, reserve_checked}
 use Rattle.pane_read.specs.declared.Pane.{Pane}
@@ -23,7 +18,7 @@ use Rattle.window.specs.declared.body.WindowParsed.{WindowParsed}
 
 -- what a refused read gives
 pub record Blank (why : Refusal) (r : WindowParsed) : Type 0 where
-  pub answer : r.answer ≡ Parseds.Refused why
+  pub answer : r.answer ≡ Err why
   pub base : r.base ≡ blank_pane
   pub window : r.window ≡ blank_window
 
@@ -40,7 +35,7 @@ window_measured order s p body extent =
 unfoldable pub window_given : WindowMeasured → WindowParsed
 window_given m =
     record {
-      answer = parsed_of m.then;
+      answer = m.then;
       base = unless_refused m.then blank_pane m.base;
       window = unless_refused m.then blank_window m.own.window;
     }
@@ -67,13 +62,13 @@ read_start n body quads frames = list_checked (list_checked (body_start n body) 
 
 -- THE BODY READ at B of s: 1, 2, 3, and then so, in all of the buffer; and the lent lists after it
 unfoldable pub window_parsed : ByteOrder → List ℕ → ℕ → List ℕ → List ℕ → WindowParsed
-window_parsed order s body quads frames = window_read order s (read_start (length s) body quads frames) body Buffer
+window_parsed order s body quads frames = window_read order s (read_start (length s) body quads frames) body None
 
 unfoldable pub parsed_quads : ByteOrder → List ℕ → ℕ → List ℕ → List ℕ → List ℕ
-parsed_quads order s body quads frames = read_quads order s (read_start (length s) body quads frames) body Buffer quads
+parsed_quads order s body quads frames = read_quads order s (read_start (length s) body quads frames) body None quads
 
 unfoldable pub parsed_frames : ByteOrder → List ℕ → ℕ → List ℕ → List ℕ → List ℕ
-parsed_frames order s body quads frames = read_frames order s (read_start (length s) body quads frames) body Buffer frames
+parsed_frames order s body quads frames = read_frames order s (read_start (length s) body quads frames) body None frames
 
 -- ---- writing
 

@@ -1,6 +1,7 @@
 // The body calls of a window pane: any bytes are read or refused, any pane is written or refused.
 ghost use Rattle.std.specs.Prelude.{◌≡◌, ◌*◌, ◌^◌, ◌≤◌, ◌<◌, length};
 ghost use Rattle.core_read.specs.Bytes.{Room, Put};
+ghost use Rattle.core_checks.specs.Answered.{Clears};
 ghost use Rattle.core_checks.specs.Checks.{parsed_by_number, written_by_number};
 ghost use Rattle.pane_read.specs.Pane.{Sound};
 ghost use Rattle.window_write.specs.Write.{GoodWindow};
@@ -8,7 +9,6 @@ ghost use Rattle.window_read.specs.Window.{Ahead};
 ghost use Rattle.window.specs.Body.{Blank, window_measured, window_given, quads_filled, frames_filled, window_read, read_quads, read_frames, window_parsed, parsed_quads, parsed_frames, window_write_checked, body_length, encode_body, window_written, window_output};
 
 use core_checks::checks;
-use core_checks::checks::{Extent, Parsed, Written};
 use core_read::cursor::{ByteOrder, Cursor, Place};
 use core_read::error::Refusal;
 use pane_checks::checks::{names_checked, reserve_checked, texts_checked};
@@ -28,7 +28,7 @@ pub struct WindowMeasured {
 // What a body read gives: its answer, and the pane, blank where it was refused.
 #[derive(Clone, Copy)]
 pub struct WindowParsed {
-    pub answer: Parsed,
+    pub answer: Result<Cursor, Refusal>,
     pub base: Pane,
     pub window: WindowPane,
 }
@@ -37,7 +37,7 @@ fn refused(why: Refusal) -> WindowParsed
     ensures { Blank why result }
 {
     WindowParsed {
-        answer: Parsed::Refused(why),
+        answer: Err(why),
         base: pane_read::blank_pane(),
         window: window_read::blank_window(),
     }
@@ -49,7 +49,7 @@ pub fn measure(
     data: &[u8],
     p: Place,
     place: usize,
-    extent: Extent,
+    extent: Option<usize>,
 ) -> WindowMeasured
     requires { (8 ≤ place) × (place < 2 ^ 32) }
     ensures { result ≡ window_measured order «data».now p place extent }
@@ -74,18 +74,18 @@ pub fn fill(
     frames: &mut [u16],
 )
     requires le_place { (8 ≤ place) × (place < 2 ^ 32) }
-    requires ahead { (c : Cursor) → m.then ≡ Place.At c → Ahead «data».now m.own.quads (4 * (8 * m.own.window.content.quad_count)) }
+    requires ahead { (c : Cursor) → m.then ≡ Ok c → Ahead «data».now m.own.quads (4 * (8 * m.own.window.content.quad_count)) }
     requires in_bounds { (2040 ≤ length quads.old) × (510 ≤ length frames.old) }
     ensures quads_after { quads.new ≡ quads_filled order «data».now m quads.old }
     ensures frames_after { frames.new ≡ frames_filled order «data».now m place frames.old }
 {
     let then = m.then;
     match then {
-        Place::At(_) => {
+        Ok(_) => {
             let own = m.own;
             fill_window(order, data, own, place, quads, frames);
         }
-        Place::Refused(_) => {}
+        Err(_) => {}
     }
 }
 
@@ -98,15 +98,15 @@ pub fn given(m: WindowMeasured) -> WindowParsed
     let window = own.window;
     let then = m.then;
     match then {
-        Place::At(c) => {
-            let answer = checks::read_to(c);
+        Ok(c) => {
+            let answer = Ok(c);
             WindowParsed {
                 answer,
                 base,
                 window,
             }
         }
-        Place::Refused(why) => refused(why),
+        Err(why) => refused(why),
     }
 }
 
@@ -116,7 +116,7 @@ pub fn read(
     data: &[u8],
     p: Place,
     place: usize,
-    extent: Extent,
+    extent: Option<usize>,
     quads: &mut [u32],
     frames: &mut [u16],
 ) -> WindowParsed
@@ -148,34 +148,28 @@ pub fn parse(
     let p = checks::list_checked(p, 1, 2040, quads.len());
     let p = checks::list_checked(p, 4, 510, frames.len());
     match p {
-        Place::At(c) => read(
-            order,
-            data,
-            Place::At(c),
-            place,
-            Extent::Buffer,
-            quads,
-            frames,
-        ),
-        Place::Refused(why) => refused(why),
+        Ok(c) => read(order, data, Ok(c), place, None, quads, frames),
+        Err(why) => refused(why),
     }
 }
 
 // 1, 2, 9, 10, 11, 12 and 16
-fn write_checked(b: Pane, quads: &[u32], frames: &[u16], length: usize, place: usize) -> Place
-    ensures { result ≡ window_write_checked b quads.now frames.now length place }
+#[tactic(auto, using(core_checks::proofs::Checked::body_started, window_write::proofs::Puts::window_stays, crate::proofs::Cleared::window_let), unfolding(crate::specs::Body::window_write_checked, crate::specs::Body::body_length, pane_checks::specs::Checks::names_checked, pane_checks::specs::Checks::reserve_checked, core_checks::specs::Checks::end_checked, core_read::specs::Taken::stop_if))]
+fn write_checked(
+    b: Pane,
+    quads: &[u32],
+    frames: &[u16],
+    length: usize,
+    place: usize,
+) -> Result<(), Refusal>
+    ensures { Clears result (window_write_checked b quads.now frames.now length place) place }
 {
-    let p = checks::body_start(length, place);
-    let p = names_checked(p, b);
-    let p = reserve_checked(p, b);
-    let p = window_checked(p, quads, frames);
-    match p {
-        Place::At(c) => {
-            let own = window_length(place, quads.len(), frames.len());
-            checks::end_checked(Place::At(c), place, 76 + own, length)
-        }
-        Place::Refused(why) => Place::Refused(why),
-    }
+    checks::body_start(length, place)?;
+    names_checked(b)?;
+    reserve_checked(b)?;
+    window_checked(quads, frames)?;
+    let own = window_length(place, quads.len(), frames.len());
+    checks::end_checked(place, 76 + own, length)
 }
 
 // The base, and what the kind adds.
@@ -197,6 +191,7 @@ pub fn put_body(
 }
 
 // The window pane at a place: checks 1, 2, 9, 10, 11, 12, 16. A refusal leaves the output as it was; an accepted write answers its end, and changes no byte but its own.
+#[tactic(auto, using(crate::proofs::Calls::write_cleared, pane::proofs::Cleared::sound), unfolding(crate::specs::Body::window_written, crate::specs::Body::window_output, core_checks::specs::Checks::written_of, core_checks::specs::Checks::unless_refused))]
 pub fn write(
     order: ByteOrder,
     b: Pane,
@@ -205,17 +200,11 @@ pub fn write(
     frames: &[u16],
     out: &mut [u8],
     place: usize,
-) -> Written
+) -> Result<usize, Refusal>
     ensures value { result ≡ window_written b quads.now frames.now (length out.old) place }
     ensures out_after { out.new ≡ window_output order b x quads.now frames.now out.old place }
     ensures result_value { written_by_number result ≡ written_by_number (window_written b quads.now frames.now (length out.old) place) }
 {
-    let p = write_checked(b, quads, frames, out.len(), place);
-    match p {
-        Place::At(_) => {
-            let end = put_body(order, out, place, b, x, quads, frames);
-            Written::End(end)
-        }
-        Place::Refused(why) => Written::Refused(why),
-    }
+    write_checked(b, quads, frames, out.len(), place)?;
+    Ok(put_body(order, out, place, b, x, quads, frames))
 }

@@ -8,9 +8,9 @@ use lib.IntN.{ℤ}
 use mir.Facts.{to_z-of_z}
 use Rattle.core_read.specs.Bytes.{number_at, signed_of}
 use Rattle.core_read.specs.Taken.{start, advanced}
+use Rattle.core_read.specs.declared.cursor.Taken.{Taken}
 use Rattle.core_read.specs.declared.cursor.ByteOrder.{ByteOrder}
 use Rattle.core_read.specs.declared.cursor.Cursor.{Cursor}
-use Rattle.core_read.specs.declared.cursor.Place.TheVariants.{At}
 use Rattle.core_read.proofs.Cursors.{pos_start, pos_advanced, advanced_more}
 use Rattle.core_read.proofs.TwosComplement.{signed_fits}
 use Rattle.core_read.proofs.Lists.{number_here}
@@ -19,9 +19,9 @@ use Rattle.flags.specs.Fields.{window_flags_of}
 use Rattle.flags.specs.declared.window.WindowFlags.{WindowFlags}
 use Rattle.window_head.specs.Head.{sides_taken, head_taken}
 use Rattle.window_head.specs.declared.Sides.{Sides}
-use Rattle.window_head.specs.declared.SidesTaken.{SidesTaken}
-use Rattle.window_head.specs.declared.HeadTaken.{HeadTaken}
 use Rattle.window_head.proofs.Signed.{passed}
+use Rattle.std.specs.Prelude.{Ok}
+use Rattle.window_head.specs.declared.WindowHead.{WindowHead}
 
 -- a number that was made of 16 bits is passed on as it is
 kept : (v : ℕ) (x : ℤ) → x ≡ signed_of v → v < 65536 → passed x ≡ signed_of v
@@ -38,7 +38,7 @@ sides_there order s at = record {
 
 module _ (order : ByteOrder) (s : List ℕ) where
   sides_here : (c : Cursor) → c.pos + 8 ≤ length s
-      → ◌≡◌ {A = SidesTaken} (sides_taken order s (At c)) (record { value = sides_there order s c.pos; then = At (advanced c 8) })
+      → ◌≡◌ {A = Taken Sides} (sides_taken order s (Ok c)) (record { value = sides_there order s c.pos; then = Ok (advanced c 8) })
   unfolding sides_taken
   sides_here c h =
       rw (
@@ -48,7 +48,7 @@ module _ (order : ByteOrder) (s : List ℕ) where
         number_there s c 6 order 2 (omega arith),
       )
 
-  sides_start : (at : ℕ) → at + 8 ≤ length s → (sides_taken order s (At (start at))).value ≡ sides_there order s at
+  sides_start : (at : ℕ) → at + 8 ≤ length s → (sides_taken order s (Ok (start at))).value ≡ sides_there order s at
   sides_start at h =
       let k : (start at).pos + 8 ≤ length s = rw pos_start h in
       ap (λ t. t.value) (sides_here (start at) k) ∙ ap (sides_there order s) (pos_start at)
@@ -57,25 +57,25 @@ module _ (order : ByteOrder) (s : List ℕ) where
       → a ≡ number_at order 2 s at → b ≡ number_at order 2 s (at + 2) → d ≡ number_at order 2 s (at + 4) → e ≡ number_at order 2 s (at + 6)
       → (l r t u : ℤ) → l ≡ signed_of a → r ≡ signed_of b → t ≡ signed_of d → u ≡ signed_of e
       → a < 65536 → b < 65536 → d < 65536 → e < 65536
-      → ◌≡◌ {A = Sides} (record { left = passed l; right = passed r; top = passed t; bottom = passed u }) (sides_taken order s (At (start at))).value
+      → ◌≡◌ {A = Sides} (record { left = passed l; right = passed r; top = passed t; bottom = passed u }) (sides_taken order s (Ok (start at))).value
   sides_made at h a b d e ea eb ed ee l r t u el er et eu fa fb fd fe =
       rw (kept a l el fa, kept b r er fb, kept d t et fd, kept e u eu fe, ea, eb, ed, ee) (sym (sides_start at h))
 
   sides_there_lem : (c : Cursor) (k : ℕ) → c.pos + k + 8 ≤ length s
-      → ◌≡◌ {A = SidesTaken} (sides_taken order s (At (advanced c k))) (record { value = (sides_taken order s (At (start (c.pos + k)))).value; then = At (advanced c (k + 8)) })
+      → ◌≡◌ {A = Taken Sides} (sides_taken order s (Ok (advanced c k))) (record { value = (sides_taken order s (Ok (start (c.pos + k)))).value; then = Ok (advanced c (k + 8)) })
   sides_there_lem c k h =
       let e : (advanced c k).pos + 8 ≤ length s = rw pos_advanced h in
       sides_here (advanced c k) e ∙ rw (advanced_more, pos_advanced c k, sides_start (c.pos + k) h)
 
   sides_first : (c : Cursor) → c.pos + 8 ≤ length s
-      → ◌≡◌ {A = SidesTaken} (sides_taken order s (At c)) (record { value = (sides_taken order s (At (start c.pos))).value; then = At (advanced c 8) })
+      → ◌≡◌ {A = Taken Sides} (sides_taken order s (Ok c)) (record { value = (sides_taken order s (Ok (start c.pos))).value; then = Ok (advanced c 8) })
   sides_first c h = sides_here c h ∙ rw (sides_start c.pos h)
 
   pub head_made : (c : Cursor) → c.pos + 28 ≤ length s → (inflation size : Sides) (flag : WindowFlags) (content table : ℕ) (d : Cursor)
-      → inflation ≡ (sides_taken order s (At (start c.pos))).value → size ≡ (sides_taken order s (At (start (c.pos + 8)))).value
+      → inflation ≡ (sides_taken order s (Ok (start c.pos))).value → size ≡ (sides_taken order s (Ok (start (c.pos + 8)))).value
       → flag ≡ window_flags_of (get_or s (c.pos + 17) 0) → content ≡ number_at order 4 s (c.pos + 20) → table ≡ number_at order 4 s (c.pos + 24)
       → d ≡ advanced c 28
-      → ◌≡◌ {A = HeadTaken} (record {
+      → ◌≡◌ {A = Taken WindowHead} (record {
         value = record {
           inflation = inflation;
           frame_size = size;
@@ -84,8 +84,8 @@ module _ (order : ByteOrder) (s : List ℕ) where
           content_offset = content;
           table_offset = table;
         };
-        then = At d;
-      }) (head_taken order s (At c))
+        then = Ok d;
+      }) (head_taken order s (Ok c))
   unfolding head_taken
   head_made c h inflation size flag content table d e₁ e₂ e₃ e₄ e₅ e₆ =
       rw (

@@ -4,10 +4,9 @@
 ghost use Rattle.std.specs.Prelude.{◌≡◌};
 ghost use Rattle.core_read.specs.Bytes.{Room};
 ghost use Rattle.core_read.specs.Taken.{start};
-ghost use Rattle.core_read.specs.declared.cursor.Place.TheVariants.{At};
 ghost use Rattle.window_head.specs.Head.{sides_taken, head_taken};
 
-use core_read::cursor::{ByteOrder, Cursor, Place};
+use core_read::cursor::{ByteOrder, Cursor, Place, Taken};
 use core_read::{cursor, signed};
 use flags::window::WindowFlags;
 
@@ -18,12 +17,6 @@ pub struct Sides {
     pub right: i16,
     pub top: i16,
     pub bottom: i16,
-}
-
-#[derive(Clone, Copy)]
-pub struct SidesTaken {
-    pub value: Sides,
-    pub then: Place,
 }
 
 // The 28 bytes after the base.
@@ -37,13 +30,7 @@ pub struct WindowHead {
     pub table_offset: u32,
 }
 
-#[derive(Clone, Copy)]
-pub struct HeadTaken {
-    pub value: WindowHead,
-    pub then: Place,
-}
-
-fn take_sides(order: ByteOrder, data: &[u8], p: Place) -> SidesTaken
+fn take_sides(order: ByteOrder, data: &[u8], p: Place) -> Taken<Sides>
     ensures { result ≡ sides_taken order «data».now p }
 {
     let left = cursor::take_i16(order, data, p);
@@ -54,7 +41,7 @@ fn take_sides(order: ByteOrder, data: &[u8], p: Place) -> SidesTaken
     let p3 = top.then;
     let bottom = cursor::take_i16(order, data, p3);
     let then = bottom.then;
-    SidesTaken {
+    Taken {
         value: Sides {
             left: left.value,
             right: right.value,
@@ -66,7 +53,7 @@ fn take_sides(order: ByteOrder, data: &[u8], p: Place) -> SidesTaken
 }
 
 // Field by field. The reserved u16 is read, and kept nowhere.
-fn take_fields(order: ByteOrder, data: &[u8], p: Place) -> HeadTaken
+fn take_fields(order: ByteOrder, data: &[u8], p: Place) -> Taken<WindowHead>
     ensures { result ≡ head_taken order «data».now p }
 {
     let inflation = take_sides(order, data, p);
@@ -89,16 +76,16 @@ fn take_fields(order: ByteOrder, data: &[u8], p: Place) -> HeadTaken
         inflation: inflation_value,
         frame_size,
         frame_count: count.value,
-        flag: WindowFlags::decode(flag.value),
+        flag: WindowFlags::from(flag.value),
         content_offset: content.value,
         table_offset: table.value,
     };
-    HeadTaken { value, then }
+    Taken { value, then }
 }
 
 fn sides_at(order: ByteOrder, data: &[u8], at: usize) -> Sides
     requires { Room «data».now at 8 }
-    ensures { result ≡ (sides_taken order «data».now (At (start at))).value }
+    ensures { result ≡ (sides_taken order «data».now (Ok (start at))).value }
 {
     let left = cursor::u16_at(order, data, at);
     let right = cursor::u16_at(order, data, at + 2);
@@ -113,9 +100,9 @@ fn sides_at(order: ByteOrder, data: &[u8], at: usize) -> Sides
 }
 
 // The head of the 28 bytes at a cursor.
-fn head_at(order: ByteOrder, data: &[u8], c: Cursor) -> HeadTaken
+fn head_at(order: ByteOrder, data: &[u8], c: Cursor) -> Taken<WindowHead>
     requires { Room «data».now c.pos 28 }
-    ensures { result ≡ head_taken order «data».now (At c) }
+    ensures { result ≡ head_taken order «data».now (Ok c) }
 {
     let at = c.pos;
     let frame_count = data[at + 16];
@@ -128,30 +115,30 @@ fn head_at(order: ByteOrder, data: &[u8], c: Cursor) -> HeadTaken
         inflation,
         frame_size,
         frame_count,
-        flag: WindowFlags::decode(flag),
+        flag: WindowFlags::from(flag),
         content_offset,
         table_offset,
     };
-    HeadTaken {
+    Taken {
         value,
-        then: Place::At(c.advanced(28)),
+        then: Ok(c.advanced(28)),
     }
 }
 
 // One test where all 28 bytes are there.
-pub fn take_head(order: ByteOrder, data: &[u8], p: Place) -> HeadTaken
+pub fn take_head(order: ByteOrder, data: &[u8], p: Place) -> Taken<WindowHead>
     ensures { result ≡ head_taken order «data».now p }
 {
     match p {
-        Place::At(c) => {
+        Ok(c) => {
             let at = c.pos;
             if at < data.len() {
                 if 28 <= data.len() - at {
                     return head_at(order, data, c);
                 }
             }
-            take_fields(order, data, Place::At(c))
+            take_fields(order, data, Ok(c))
         }
-        Place::Refused(why) => take_fields(order, data, Place::Refused(why)),
+        Err(why) => take_fields(order, data, Err(why)),
     }
 }

@@ -1,33 +1,29 @@
 -- What a window has beyond the base, as it is read: 28 bytes, then the content, the whole table and the frames at their offsets.
-use Rattle.std.specs.Prelude.{ℕ, ◌+◌, ◌-◌, ◌*◌, List, [], ◌∷◌, replicate, pos}
+use Rattle.std.specs.Prelude.{ℕ, ◌+◌, ◌-◌, ◌*◌, List, [], ◌∷◌, replicate, pos, Err, Ok}
 use Rattle.core_read.specs.Bytes.{Room}
-use Rattle.core_read.specs.Taken.{Taken, sought, u8_taken, u16_taken}
+use Rattle.core_read.specs.Taken.{sought, u8_taken, u16_taken, Place}
+use Rattle.core_read.specs.declared.cursor.Taken.{Taken}
 use Rattle.core_read.specs.Lists.{numbers_taken}
 use Rattle.core_read.specs.declared.cursor.ByteOrder.{ByteOrder}
-use Rattle.core_read.specs.declared.cursor.Place.{Place}
-use Rattle.core_read.specs.declared.cursor.Place.TheVariants.{At, Refused}
-use Rattle.core_read.specs.declared.cursor.U8Taken.{U8Taken}
-use Rattle.core_read.specs.declared.cursor.U16Taken.{U16Taken}
 use Rattle.flags.specs.Enums.{flip_of, flip_number}
 use Rattle.flags.specs.Fields.{window_flags_of}
 use Rattle.window_head.specs.Head.{head_taken}
 use Rattle.ui2d.specs.Parts.{colors_taken}
-use Rattle.ui2d.specs.declared.ColorsTaken.{ColorsTaken}
 use Rattle.window_read.specs.declared.WindowContent.{WindowContent}
 use Rattle.window_read.specs.declared.WindowPane.{WindowPane}
 use Rattle.window_head.specs.declared.WindowHead.{WindowHead}
-use Rattle.window_head.specs.declared.HeadTaken.{HeadTaken}
 use Rattle.window_read.specs.declared.read.ContentTaken.{ContentTaken}
 use Rattle.window_read.specs.declared.read.FrameTaken.{FrameTaken}
 use Rattle.window_read.specs.declared.read.WindowTaken.{WindowTaken}
+use Rattle.ui2d.specs.declared.Color4u8.{Color4u8}
 
 -- four colours, material u16, quad count u8, 0
 unfoldable pub content_taken : ByteOrder → List ℕ → Place → ContentTaken
 content_taken order s p =
-    let colors : ColorsTaken = colors_taken order s p in
-    let material : U16Taken = u16_taken order s colors.then in
-    let count : U8Taken = u8_taken order s material.then in
-    let reserve : U8Taken = u8_taken order s count.then in
+    let colors : Taken (List Color4u8) = colors_taken order s p in
+    let material : Taken ℕ = u16_taken order s colors.then in
+    let count : Taken ℕ = u8_taken order s material.then in
+    let reserve : Taken ℕ = u8_taken order s count.then in
     record {
       value = record { vertex_colors = colors.value; material_index = material.value; quad_count = count.value };
       then = reserve.then;
@@ -36,9 +32,9 @@ content_taken order s p =
 -- a frame: material u16, flip u8, 0
 unfoldable pub frame_taken : ByteOrder → List ℕ → Place → FrameTaken
 frame_taken order s p =
-    let material : U16Taken = u16_taken order s p in
-    let flip : U8Taken = u8_taken order s material.then in
-    let reserve : U8Taken = u8_taken order s flip.then in
+    let material : Taken ℕ = u16_taken order s p in
+    let flip : Taken ℕ = u8_taken order s material.then in
+    let reserve : Taken ℕ = u8_taken order s flip.then in
     record {
       value = record { material_index = material.value; texture_flip_mode = flip_of flip.value };
       then = reserve.then;
@@ -74,7 +70,7 @@ window_of h content = record {
 -- THE READ from a place p of the run, of a body at B: head; content and quads, whole table, frames in order, by offsets from B − 8; ends at B + 104
 unfoldable pub window_taken : ByteOrder → List ℕ → Place → ℕ → WindowTaken
 window_taken order s p body =
-    let head : HeadTaken = head_taken order s p in
+    let head : Taken WindowHead = head_taken order s p in
     let content : ContentTaken = content_taken order s (sought s head.then (body - 8 + head.value.content_offset)) in
     let quads : Taken (List ℕ) = numbers_taken order 4 (8 * content.value.quad_count) s content.then in
     let to_table : Place = sought s quads.then (body - 8 + head.value.table_offset) in
@@ -98,8 +94,8 @@ window_frames order s t body =
 
 -- a run stands at a place that has w bytes ahead
 unfoldable pub Ahead : List ℕ → Place → ℕ → Type 0
-Ahead s (At c) w = Room s c.pos w
-Ahead s (Refused why) w = ⊥
+Ahead s (Ok c) w = Room s c.pos w
+Ahead s (Err why) w = ⊥
 
 -- the window beside a refusal: numbers 0, first cases, false
 unfoldable pub blank_window : WindowPane

@@ -77,7 +77,7 @@ pub fn blank_window() -> WindowPane
         frame_size_right: 0,
         frame_size_top: 0,
         frame_size_bottom: 0,
-        flag: WindowFlags::decode(0),
+        flag: WindowFlags::from(0),
         frame_count: 0,
         content,
     }

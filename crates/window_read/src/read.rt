@@ -60,7 +60,7 @@ fn take_frame(order: ByteOrder, data: &[u8], p: Place) -> FrameTaken
     let p2 = flip.then;
     let reserve = cursor::take_u8(order, data, p2);
     let then = reserve.then;
-    let texture_flip_mode = TextureFlip::decode(flip.value);
+    let texture_flip_mode = TextureFlip::from(flip.value);
     FrameTaken {
         value: WindowFrame {
             material_index: material.value,
@@ -84,15 +84,13 @@ fn measure_frames(
 {
     let mut t = table;
     let mut p = start;
-    let mut i = 0;
-    while i < n {
+    for _ in 0..n {
         let entry = cursor::take_u32(order, data, t);
         let to = from + (entry.value as usize);
         let q = cursor::seek(data, p, to);
         let f = take_frame(order, data, q);
         t = entry.then;
         p = f.then;
-        i += 1;
     }
     p
 }
@@ -154,15 +152,16 @@ fn fill_quads(order: ByteOrder, data: &[u8], p: Place, n: usize, list: &mut [u32
     ensures { list.new ≡ over (numbers_taken order 4 (8 * n) «data».now p).value list.old }
 {
     match p {
-        Place::At(c) => {
+        Ok(c) => {
             let at = c.pos;
             ui2d::quads::fill_quads(order, data, at, n, list);
         }
-        Place::Refused(_) => {}
+        Err(_) => {}
     }
 }
 
 // The n frames of a run, as material and flip.
+// By place: of chunks that are lent to be written (chunks_exact_mut) a proof knows nothing afterwards.
 fn fill_frames(
     order: ByteOrder,
     data: &[u8],
@@ -177,20 +176,18 @@ fn fill_frames(
 {
     let mut t = table;
     let mut p = start;
-    let mut i = 0;
-    while i < n {
+    for i in 0..n {
         let entry = cursor::take_u32(order, data, t);
         let to = from + (entry.value as usize);
         let q = cursor::seek(data, p, to);
         let f = take_frame(order, data, q);
         let frame = f.value;
         let flip = frame.texture_flip_mode;
-        let number = flip.number();
+        let number = u8::from(flip);
         out[2 * i] = frame.material_index;
         out[2 * i + 1] = number as u16;
         t = entry.then;
         p = f.then;
-        i += 1;
     }
 }
 

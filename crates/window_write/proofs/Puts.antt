@@ -5,19 +5,22 @@ use Prim.Native.Nat.{ℕ, zero, suc, ◌+◌, ◌*◌, ◌/◌, ◌%◌, ◌≤�
 use native.Mathlib.Omega.{arith}
 use native.Mathlib.Numerals.{add-one}
 use lib.Dec.{ltb}
+use mathlib.Core.Bool.{true, false}
+use borrow.Author.Tests.{lt-ltb, le-ltb}
 use lib.ListN.{length, take, drop, get_or, length-drop, take-append-drop}
 use lib.Seq.{drop-cons, length-take-le}
 use Rattle.core_read.specs.Bytes.{ordered, bytes_of, bytes_of_all, le}
-use Rattle.core_read.specs.Taken.{stop_if}
+use Rattle.core_read.specs.Taken.{stop_if, Place}
 use Rattle.core_checks.specs.Checks.{count_checked}
 use Rattle.core_read.specs.declared.error.Refusal.{Refusal}
 use Rattle.core_read.specs.declared.error.Refusal.TheVariants.{BadFlip}
 use Rattle.core_read.specs.declared.cursor.ByteOrder.{ByteOrder}
 use Rattle.core_read.specs.declared.cursor.Cursor.{Cursor}
-use Rattle.core_read.specs.declared.cursor.Place.{Place}
-use Rattle.core_read.specs.declared.cursor.Place.TheVariants.{At, Refused}
+use Rattle.std.specs.Simd.{first_chunks}
+use Rattle.ui2d.proofs.Chunks.{chunk_at}
 use Rattle.core_write.proofs.Puts.{take_more, all_append, all_one}
 use Rattle.window_write.specs.Write.{flips_checked, window_checked, frame_offsets, encode_frame, encode_frames}
+use Rattle.std.specs.Prelude.{Err, Ok}
 
 -- ---- a list by pairs
 
@@ -28,6 +31,11 @@ pair l i h =
     let f : suc (2 * i + 1) ≡ 2 * (i + 1) = omega arith in
     drop-cons l (2 * i) 0 (omega arith)
     ∙ ap (λ (r : List ℕ). get_or l (2 * i) 0 ∷ r) (ap (λ (k : ℕ). drop k l) e ∙ drop-cons l (2 * i + 1) 0 (omega arith) ∙ ap (λ (k : ℕ). get_or l (2 * i + 1) 0 ∷ drop k l) f)
+
+-- the same of the list cut into twos
+pair_at : (l : List ℕ) (i : ℕ) (twos : List (List ℕ)) → twos ≡ first_chunks 2 (length l / 2) l → i < length l / 2
+    → get_or twos i [] ≡ get_or l (2 * i) 0 ∷ get_or l (2 * i + 1) 0 ∷ []
+pair_at l i twos e h = ap (λ (t : List (List ℕ)). get_or t i []) e ∙ chunk_at 2 (length l / 2) i l [] h ∙ ap (take 2) (pair l i h)
 
 few : (l : List ℕ) (i : ℕ) → length l / 2 ≤ i → length (drop (2 * i) l) ≤ 1
 few l i h = simp length-drop (omega arith)
@@ -43,27 +51,33 @@ flips_few p i (a ∷ b ∷ l) h = absurd (omega arith)
 pub flips_none : (p : Place) (i : ℕ) (l : List ℕ) → length l / 2 ≤ i → flips_checked p i (drop (2 * i) l) ≡ p
 flips_none p i l h = flips_few p i (drop (2 * i) l) (few l i h)
 
-pub flips_turn : (p : Place) (i : ℕ) (l : List ℕ) → i < length l / 2
-    → flips_checked p i (drop (2 * i) l) ≡ flips_checked (stop_if p (ltb 5 (get_or l (2 * i + 1) 0)) (BadFlip i (get_or l (2 * i + 1) 0))) (i + 1) (drop (2 * (i + 1)) l)
-unfolding flips_checked
-flips_turn p i l h = ap (flips_checked p i) (pair l i h)
-
--- a run that was refused stays refused, whatever the frames
-flips_stopped : (why : Refusal) (i : ℕ) (l : List ℕ) → Refused why ≡ flips_checked (Refused why) i l
+-- a run that was refused stays refused, whatever the lists
+pub flips_stopped : (why : Refusal) (i : ℕ) (l : List ℕ) → flips_checked (Err why) i l ≡ Err why
 unfolding flips_checked stop_if
 flips_stopped why i [] = refl
 flips_stopped why i (material ∷ []) = refl
 flips_stopped why i (material ∷ flip ∷ l) = flips_stopped why (i + 1) l
 
--- 11 for the quads, 11 for the frames, and then 12 of a run that goes on, or none of one that was refused
-module _ (p q r : Place) (quads frames : List ℕ) (e : q ≡ count_checked p 1 8 (length quads)) (f : r ≡ count_checked q 4 2 (length frames)) where
-  pub flips_on : (c : Cursor) → r ≡ At c → flips_checked (At c) 0 frames ≡ window_checked p quads frames
-  unfolding window_checked
-  flips_on c h = rw (← h, f, e)
+pub window_stays : (why : Refusal) (quads frames : List ℕ) → window_checked (Err why) quads frames ≡ Err why
+unfolding window_checked count_checked stop_if
+window_stays why quads frames = flips_stopped why 0 frames
 
-  pub flips_stay : (why : Refusal) → r ≡ Refused why → Refused why ≡ window_checked p quads frames
-  unfolding window_checked
-  flips_stay why h = rw (← e, ← f, h) (flips_stopped why 0 frames)
+module _ (d : Cursor) (l : List ℕ) (i : ℕ) (twos : List (List ℕ)) (cut : twos ≡ first_chunks 2 (length l / 2) l) (h : i < length l / 2) where
+  abbrev flip : ℕ
+  flip = get_or (get_or twos i []) 1 0
+
+  flips_turn : flips_checked (Ok d) i (drop (2 * i) l) ≡ flips_checked (stop_if (Ok d) (ltb 5 flip) (BadFlip i flip)) (i + 1) (drop (2 * (i + 1)) l)
+  unfolding flips_checked
+  flips_turn = rw (pair_at l i twos cut h) (ap (flips_checked (Ok d) i) (pair l i h))
+
+  -- a good flip, or the first that is not
+  pub flips_next : flip ≤ 5 → flips_checked (Ok d) i (drop (2 * i) l) ≡ flips_checked (Ok d) (i + 1) (drop (2 * (i + 1)) l)
+  unfolding stop_if
+  flips_next k = rw (le-ltb 5 flip k) at flips_turn
+
+  pub flips_found : 5 < flip → flips_checked (Ok d) i (drop (2 * i) l) ≡ Err (BadFlip i flip)
+  unfolding stop_if
+  flips_found k = (rw (lt-ltb 5 flip k) at flips_turn) ∙ flips_stopped (BadFlip i flip) (i + 1) (drop (2 * (i + 1)) l)
 
 -- ---- offsets
 
@@ -118,12 +132,14 @@ module _ (order : ByteOrder) where
   unfolding encode_frames
   one_frame a b = append-nil (encode_frame order a b)
 
-  pub frames_more : (l : List ℕ) (i : ℕ) → i < length l / 2
-      → encode_frames order (take (2 * i) l) ++ encode_frame order (get_or l (2 * i) 0) (get_or l (2 * i + 1) 0) ≡ encode_frames order (take (2 * (i + 1)) l)
-  frames_more l i h =
-      sym (ap (encode_frames order) (take_pair l i h)
+  -- a frame more: the two i of the list
+  pub frames_more : (l : List ℕ) (i : ℕ) (twos : List (List ℕ)) → twos ≡ first_chunks 2 (length l / 2) l → i < length l / 2
+      → encode_frames order (take (2 * i) l) ++ encode_frame order (get_or (get_or twos i []) 0 0) (get_or (get_or twos i []) 1 0) ≡ encode_frames order (take (2 * (i + 1)) l)
+  frames_more l i twos cut h =
+      rw (pair_at l i twos cut h)
+      (sym (ap (encode_frames order) (take_pair l i h)
       ∙ frames_append (take (2 * i) l) _ (even l i (omega arith))
-      ∙ ap (λ (r : List ℕ). encode_frames order (take (2 * i) l) ++ r) (one_frame _ _))
+      ∙ ap (λ (r : List ℕ). encode_frames order (take (2 * i) l) ++ r) (one_frame _ _)))
 
   pub frames_all : (l : List ℕ) → encode_frames order (take (2 * (length l / 2)) l) ≡ encode_frames order l
   frames_all l =

@@ -1,11 +1,10 @@
 -- What a window has beyond the base, as it is written: its checks, its length and its bytes.
 use Rattle.std.specs.Prelude.{◌≡◌, ℕ, zero, suc, ◌+◌, ◌*◌, ◌/◌, ◌%◌, ◌≤◌, List, [], ◌∷◌, ◌++◌, length, replicate, ℤ, ltb}
 use Rattle.core_read.specs.Bytes.{bytes_of, bytes_of_all, bits_of, padding}
-use Rattle.core_read.specs.Taken.{stop_if}
+use Rattle.core_read.specs.Taken.{stop_if, Place}
 use Rattle.core_checks.specs.Checks.{count_checked}
 use Rattle.core_read.specs.declared.error.Refusal.TheVariants.{BadFlip}
 use Rattle.core_read.specs.declared.cursor.ByteOrder.{ByteOrder}
-use Rattle.core_read.specs.declared.cursor.Place.{Place}
 use Rattle.flags.specs.Fields.{window_flags_number}
 use Rattle.ui2d.specs.Parts.{encode_colors}
 use Rattle.window_read.specs.declared.WindowContent.{WindowContent}

@@ -1,11 +1,11 @@
 // A window's checks, its length and its bytes.
 ghost use Rattle.std.specs.Prelude.{◌≡◌, ◌+◌, ◌*◌, ◌/◌, ◌%◌, ◌^◌, ◌≤◌, ◌<◌, length};
 ghost use Rattle.core_read.specs.Bytes.{bytes_of_all, Room, Put};
+ghost use Rattle.core_checks.specs.Answered.{Lets};
 ghost use Rattle.window_write.specs.Write.{flips_checked, window_checked, GoodWindow, content_padding, window_length, encode_sides, encode_borders, encode_head, encode_content, frame_offsets, encode_frame, encode_frames, encode_window};
 
 use core_checks::checks;
-use core_read::cursor;
-use core_read::cursor::{ByteOrder, Place};
+use core_read::cursor::ByteOrder;
 use core_read::error::Refusal;
 use core_write::writer;
 use window_read::{WindowContent, WindowPane};
@@ -13,36 +13,28 @@ use window_read::{WindowContent, WindowPane};
 // ---- checks
 
 // 12: the first frame whose flip is above 5.
-fn flips_checked(start: Place, frames: &[u16]) -> Place
-    ensures { result ≡ flips_checked start 0 frames.now }
+fn flips_checked(frames: &[u16]) -> Result<(), Refusal>
+    ensures { Lets result (λ p. flips_checked p 0 frames.now) }
 {
-    let mut p = start;
-    let mut i = 0;
-    while i < frames.len() / 2 {
-        let flip = frames[2 * i + 1];
-        p = cursor::stop_if(
-            p,
-            5 < flip,
-            Refusal::BadFlip {
-                frame: i,
-                flip: flip as usize,
-            },
-        );
-        i += 1;
+    let (pairs, _) = frames.as_chunks::<2>();
+    for (frame, pair) in pairs.iter().enumerate() {
+        let flip = pair[1];
+        if 5 < flip {
+            let flip = flip as usize;
+            return Err(Refusal::BadFlip { frame, flip });
+        }
     }
-    p
+    Ok(())
 }
 
-// 11 for the quads, 11 for the frames, 12. The frames are not looked at where the run was refused before.
-pub fn window_checked(p: Place, quads: &[u32], frames: &[u16]) -> Place
-    ensures { result ≡ window_checked p quads.now frames.now }
+// 11 for the quads, 11 for the frames, 12.
+#[tactic(auto, using(crate::proofs::Puts::flips_stopped), unfolding(crate::specs::Write::window_checked, core_checks::specs::Checks::count_checked, core_read::specs::Taken::stop_if))]
+pub fn window_checked(quads: &[u32], frames: &[u16]) -> Result<(), Refusal>
+    ensures { Lets result (λ p. window_checked p quads.now frames.now) }
 {
-    let p = checks::count_checked(p, 1, 8, quads.len());
-    let p = checks::count_checked(p, 4, 2, frames.len());
-    match p {
-        Place::At(c) => flips_checked(Place::At(c), frames),
-        Place::Refused(why) => Place::Refused(why),
-    }
+    checks::count_checked(1, 8, quads.len())?;
+    checks::count_checked(4, 2, frames.len())?;
+    flips_checked(frames)
 }
 
 // ---- places
@@ -108,7 +100,7 @@ fn put_head(order: ByteOrder, out: &mut [u8], p: usize, x: WindowPane, n: u8, ta
     ensures { Put out.old p 28 (encode_head order x n table) result out.new }
 {
     let f = x.flag;
-    let flag = f.encode();
+    let flag = u8::from(f);
     let q = put_borders(order, out, p, x);
     let q = writer::put_u8(order, out, q, n);
     let q = writer::put_u8(order, out, q, flag);
@@ -137,12 +129,8 @@ fn put_offsets(order: ByteOrder, out: &mut [u8], p: usize, first: u32, n: usize)
     ensures { Put out.old p (4 * n) (bytes_of_all order 4 (frame_offsets first n)) result out.new }
 {
     let mut q = p;
-    let mut offset = first;
-    let mut i = 0;
-    while i < n {
-        q = writer::put_u32(order, out, q, offset);
-        offset += 4;
-        i += 1;
+    for i in 0..n as u32 {
+        q = writer::put_u32(order, out, q, first + 4 * i);
     }
     q
 }
@@ -161,13 +149,10 @@ fn put_frames(order: ByteOrder, out: &mut [u8], p: usize, frames: &[u16]) -> usi
     requires { Room out.old p (4 * (length frames.now / 2)) }
     ensures { Put out.old p (4 * (length frames.now / 2)) (encode_frames order frames.now) result out.new }
 {
+    let (pairs, _) = frames.as_chunks::<2>();
     let mut q = p;
-    let mut i = 0;
-    while i < frames.len() / 2 {
-        let at = 2 * i;
-        let next = at + 1;
-        q = put_frame(order, out, q, frames[at], frames[next]);
-        i += 1;
+    for [material, flip] in pairs {
+        q = put_frame(order, out, q, *material, *flip);
     }
     q
 }

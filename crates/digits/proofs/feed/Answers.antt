@@ -1,6 +1,7 @@
-use mathlib.Core.Path.{refl}
+use mathlib.Core.Path.{◌≡◌, refl, ap}
+use lib.ListN.{length, drop, length-drop}
 use native.Mathlib.Omega.{arith}
-use Rattle.digits.proofs.Feeds.{going_on, going_end, left_none, left_fed}
+use Rattle.digits.proofs.Feeds.{going_on, going_end, left_none, left_fed, left_short}
 use Rattle.digits.proofs.feed.Goals as goal
 
 pub loop-i-init : goal.loop-i-init
@@ -15,4 +16,9 @@ loop-i-preserved c =
     (omega arith, rw (c.digit-l.ensures.value, c.digit-l.ensures.bytes_after) more)
 
 pub returns : goal.returns
-returns c = let asked = going_end _ _ _ _ _ _ _ (left_none _ _ c.loop-i-test.false) c.loop-i.invariant.1 in record { value = asked.0; bytes_after = asked.1 }
+returns c =
+    let a = c.args in
+    let none = left_none a.text.now c.loop-i.i c.loop-i-test.false in
+    let place : c.max.result ≡ c.loop-i.i = omega (arith, c.loop-i.invariant.1.place, ap length none, left_short (drop a.at a.text.now), length-drop a.at a.text.now) in
+    let asked = going_end _ _ _ _ _ _ _ none c.loop-i.invariant.1 in
+    record { value = rw place asked.0; bytes_after = asked.1 }

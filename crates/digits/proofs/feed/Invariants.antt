@@ -1,11 +1,7 @@
 use mathlib.Core.Path.{◌≡◌}
-use Prim.Native.Nat.{◌-◌}
 use lib.ListN.{length}
 use Rattle.digits.proofs.Feeds.{Going}
 use Rattle.digits.proofs.feed.Given as goal
 
 abbrev pub invariant-loop-i : goal.invariant-loop-i
-invariant-loop-i l = (length l.bytes ≡ length l.initial.bytes) × Going l.text l.at l.initial.l l.initial.bytes l.i l.l l.bytes
-
-abbrev pub decreases-loop-i : goal.decreases-loop-i
-decreases-loop-i l = length l.text - l.i
+invariant-loop-i l = (length l.bytes ≡ length l.initial.bytes) × Going l.text l.at l.fn.line l.fn.bytes l.i l.l l.bytes

@@ -5,4 +5,4 @@ pub returns-then-answer-lt-ANSWER_WORDS : goal.returns-then-answer-lt-ANSWER_WOR
 returns-then-answer-lt-ANSWER_WORDS c = part_short _ _ c.if-answer-lt-ANSWER_WORDS.true
 
 pub returns : goal.returns
-returns c = part_seen _ _ _ _ _ c.if-answer-lt-ANSWER_WORDS.false c.caption-x.ensures c.give.ensures
+returns c = part_seen _ _ _ _ _ c.if-answer-lt-ANSWER_WORDS.false c.caption-x.ensures (rw c.part_told.ensures at c.give.ensures)

@@ -5,4 +5,4 @@ pub returns-then-answer-lt-ANSWER_WORDS : goal.returns-then-answer-lt-ANSWER_WOR
 returns-then-answer-lt-ANSWER_WORDS c = read_short _ _ _ _ c.if-answer-lt-ANSWER_WORDS.true
 
 pub returns : goal.returns
-returns c = read_seen_lem _ _ _ _ _ _ _ _ _ c.if-answer-lt-ANSWER_WORDS.false c.read_body-x.ensures c.give.ensures
+returns c = read_seen_lem _ _ _ _ _ _ _ _ _ c.if-answer-lt-ANSWER_WORDS.false c.read_body-x.ensures (rw c.section.ensures at c.give.ensures)

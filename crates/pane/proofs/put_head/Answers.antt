@@ -6,9 +6,9 @@ use Rattle.pane.proofs.put_head.Goals as goal
 
 pub returns : goal.returns
 unfolding encode_head
-returns c = put_as refl (ap (bytes_of _ 1) c.encode-flags.ensures) c.put_u8-q.ensures
-    then put_as refl (ap (bytes_of _ 1) c.encode-position.ensures) c.put_u8-q-2.ensures
+returns c = put_as refl (ap (bytes_of _ 1) c.from-flags.ensures) c.put_u8-q.ensures
+    then put_as refl (ap (bytes_of _ 1) c.from-position.ensures) c.put_u8-q-2.ensures
     then c.put_u8-q-3.ensures
-    then put_as refl (ap (bytes_of _ 1) c.encode-flag_ex.ensures) c.put_u8-q-4.ensures
-    then c.put_string24-q.ensures
-    then c.put_string8.ensures
+    then put_as refl (ap (bytes_of _ 1) c.from-flag_ex.ensures) c.put_u8-q-4.ensures
+    then c.put_fixed_string-q.ensures
+    then c.put_fixed_string.ensures

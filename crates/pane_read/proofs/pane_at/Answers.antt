@@ -8,7 +8,7 @@ vector2_at-size-requires c = omega (arith, c.requires)
 pub returns : goal.returns
 returns c =
     pane_made _ _ _ c.requires _ _ _ _ _ _ _ _ _
-    c.decode.ensures c.decode-2.ensures c.decode-3.ensures
-    c.string24_at-pane_name.ensures c.string8_at-user_name.ensures
+    c.from.ensures c.from-2.ensures c.from-3.ensures
+    c.fixed_string_at-pane_name.ensures c.fixed_string_at-user_name.ensures
     c.vector3_at-translation.ensures c.vector3_at-rotation.ensures
     c.vector2_at-scale.ensures c.vector2_at-size.ensures

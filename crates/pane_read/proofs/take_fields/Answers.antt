@@ -7,13 +7,13 @@ returns c = pane_run _ _ _ _ _ _ _ _ _ _ _ _ _
     c.take_u8-position.ensures
     c.take_u8-alpha.ensures
     c.take_u8-ex.ensures
-    c.take_string24-name.ensures
-    c.take_string8-user.ensures
+    c.take_fixed_string-name.ensures
+    c.take_fixed_string-user.ensures
     c.take_vector3-translation.ensures
     c.take_vector3-rotation.ensures
     c.take_vector2-scale.ensures
     c.take_vector2-size.ensures
     _ _ _
-    c.decode.ensures
-    c.decode-2.ensures
-    c.decode-3.ensures
+    c.from.ensures
+    c.from-2.ensures
+    c.from-3.ensures

@@ -1,10 +1,10 @@
 use Rattle.text_box_checks.specs.Checks.{bit_bad}
 use Rattle.text_box_checks.proofs.bit_bad.Goals as goal
 
-pub returns-in-Absent : goal.returns-in-Absent
+pub returns-in-None : goal.returns-in-None
 unfolding bit_bad
-returns-in-Absent c = rw c.in-Absent.is
+returns-in-None c = rw c.in-None.is
 
-pub returns-in-Present : goal.returns-in-Present
+pub returns-in-Some : goal.returns-in-Some
 unfolding bit_bad
-returns-in-Present c = rw c.in-Present.is
+returns-in-Some c = rw c.in-Some.is

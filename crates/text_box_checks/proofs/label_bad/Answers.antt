@@ -1,10 +1,10 @@
 use Rattle.text_box_checks.specs.Checks.{label_bad}
 use Rattle.text_box_checks.proofs.label_bad.Goals as goal
 
-pub returns-in-Absent : goal.returns-in-Absent
+pub returns-in-None : goal.returns-in-None
 unfolding label_bad
-returns-in-Absent c = rw c.in-Absent.is
+returns-in-None c = rw c.in-None.is
 
-pub returns-in-At : goal.returns-in-At
+pub returns-in-Some : goal.returns-in-Some
 unfolding label_bad
-returns-in-At c = rw (c.in-At.is, c.well_formed-formed.ensures, c.has_zero-zero.ensures)
+returns-in-Some c = rw (c.in-Some.is, c.well_formed-formed.ensures, c.has_zero-zero.ensures)

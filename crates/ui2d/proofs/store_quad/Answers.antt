@@ -1,6 +1,8 @@
-use Rattle.ui2d.proofs.QuadBits.{corners_stored}
+use mathlib.Core.Path.{refl}
+use Rattle.ui2d.specs.Quads.{vector_bits, quad_bits}
+use Rattle.ui2d.proofs.QuadBits.{laid_over}
 use Rattle.ui2d.proofs.store_quad.Goals as goal
 
 pub returns : goal.returns
-returns c =
-    rw (c.store_vector-4.ensures, c.store_vector-3.ensures, c.store_vector-2.ensures, c.store_vector.ensures) (corners_stored _ _ _)
+unfolding quad_bits vector_bits
+returns c = rw c.copy_from_slice.ensures.after (laid_over c.args.list.now c.args.at 8 _ refl c.requires)

@@ -1,13 +1,9 @@
-use Prim.Native.Nat.{◌-◌}
 use mathlib.Core.Path.{◌≡◌}
 use mathlib.Core.Bool.{not, ◌&&◌}
-use lib.ListN.{length, drop}
+use lib.ListN.{drop}
 use Rattle.utf8.specs.Utf8.{is_ascii}
 use Rattle.utf8.proofs.is_ascii.Given as goal
 
--- The whole is ASCII where no byte before i was high and the bytes from i on are ASCII.
-abbrev pub invariant-loop-i : goal.invariant-loop-i
-invariant-loop-i l = is_ascii l.s ≡ (not l.high && is_ascii (drop l.i l.s))
-
-abbrev pub decreases-loop-i : goal.decreases-loop-i
-decreases-loop-i l = length l.s - l.i
+-- The whole is ASCII where no byte before place b-index was high and the bytes from there on are ASCII.
+abbrev pub invariant-loop-b : goal.invariant-loop-b
+invariant-loop-b l = is_ascii l.s ≡ (not l.high && is_ascii (drop l.b-index l.s))

@@ -1,28 +1,10 @@
-use Prim.Native.Nat.{◌<◌, ◌-◌}
-use mathlib.Core.Path.{refl, sym, ◌∙◌}
-use native.Mathlib.Omega.{arith}
-use lib.ListN.{length}
-use Rattle.utf8.specs.Utf8.{table, no_row, takes}
-use Rattle.utf8.proofs.Rows.{any_default, search_hit, search_miss, search_out}
+use borrow.Author.Rules.{rules}
+use borrow.Author.Tests.{tests}
+use Rattle.std.proofs.lemmas.Iterator.{YieldsList-from_slice}
+use Rattle.std.proofs.lemmas.Iterator.Search.{find_from_yields_List}
+use Rattle.utf8.specs.Utf8.{table, takes, row_of}
 use Rattle.utf8.proofs.row_of.Goals as goal
 
-pub loop-i-init : goal.loop-i-init
-loop-i-init c = (omega arith, refl)
-
-pub returns-then-low-b : goal.returns-then-low-b
-unfolding table takes
-returns-then-low-b c =
-    let i = c.loop-i.i in
-    let h : i < length table = omega arith in
-    sym (c.loop-i.invariant.1 ∙ search_hit c.args.b i _ h (any_default table i _ no_row h) c.if-low-b.true)
-
-pub loop-i-preserved : goal.loop-i-preserved
-unfolding table takes
-loop-i-preserved c =
-    let i = c.loop-i.i in
-    let h : i < length table = omega arith in
-    (omega arith, c.loop-i.invariant.1 ∙ search_miss c.args.b i _ h (any_default table i _ no_row h) c.if-low-b.false)
-
 pub returns : goal.returns
-unfolding table
-returns c = sym (c.loop-i.invariant.1 ∙ search_out c.args.b c.loop-i.i (omega arith))
+unfolding row_of takes table
+returns c = find_from_yields_List (λ r. takes r 0 c.args.b) _ _ _ c.find.ensures.ran (YieldsList-from_slice table c.iter.ensures.rest) (λ x t q k. search (rules, tests))

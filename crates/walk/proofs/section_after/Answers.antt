@@ -1,9 +1,12 @@
 use mathlib.Core.Path.{ap}
 use Rattle.strip_header.specs.Header.{section_by_number}
-use Rattle.walk.proofs.Steps.{step_made}
+use Rattle.walk.proofs.Steps.{next_made}
+use Rattle.walk.specs.declared.Step.{Step}
 use Rattle.walk.proofs.section_after.Goals as goal
 
 pub returns : goal.returns
 returns c =
-    let step = step_made _ _ _ _ _ _ c.read_section-read.ensures.value c.place_after-next.ensures in
-    (step, c.read_section-read.ensures.frames_after, ap (λ x. section_by_number x.answer) step)
+    let walk = c.over-walk.ensures in
+    let next = c.next-read.ensures in
+    let step = rw (walk.0, walk.1) at (next_made _ c.over-walk.result _ _ _ next.0 next.2) in
+    (step, rw (walk.0, walk.1) at next.1, ap (λ (x : Step). section_by_number x.answer) step)

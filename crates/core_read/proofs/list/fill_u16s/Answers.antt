@@ -1,5 +1,8 @@
-use Prim.Native.Nat.{◌-◌}
-use Rattle.core_read.proofs.Lists.{filled_none, filled_more, filled_all}
+use native.Mathlib.Omega.{arith}
+use mathlib.Core.Path.{◌≡◌}
+use lib.ListN.{length, take}
+use lib.Seq.{length-take-le}
+use Rattle.core_read.proofs.Lists.{filled_none, filled_more}
 use Rattle.core_read.proofs.list.fill_u16s.Goals as goal
 
 pub loop-i-init : goal.loop-i-init
@@ -7,10 +10,5 @@ loop-i-init c = filled_none _ 2 _ _ _ _
 
 pub loop-i-preserved : goal.loop-i-preserved
 loop-i-preserved c =
-    filled_more _ 2 _ _ _ _ _ _ c.loop-i.invariant _ c.loop-i-test.true c.requires.1 c.u16_at.ensures
-
-pub shape_of-out : goal.shape_of-out
-shape_of-out c = c.loop-i.invariant.long
-
-pub returns : goal.returns
-returns c = filled_all _ 2 _ _ _ _ _ _ c.loop-i.invariant c.loop-i-test.false
+    let long : length (take c.args.n c.args.out.now) ≡ c.args.n = length-take-le c.args.n c.args.out.now c.requires.1 in
+    filled_more _ 2 _ _ _ _ _ _ c.loop-i.invariant _ (omega (arith, c.loop-i-test.true)) (omega arith) c.number_at.ensures

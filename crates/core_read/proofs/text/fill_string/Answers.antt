@@ -1,25 +1,20 @@
-use Prim.Native.Nat.{◌-◌}
-use Rattle.core_read.proofs.Strings.{copied_none, copied_more, copied_nul, copied_all}
+use Prim.Native.Nat.{ℕ}
 use native.Mathlib.Omega.{arith}
+use lib.Seq.{length-take-le}
+use Rattle.core_read.proofs.Nul.{nul_within, nul_over}
 use Rattle.core_read.proofs.text.fill_string.Goals as goal
 
-pub loop-i-init : goal.loop-i-init
-loop-i-init c = copied_none _ _
+pub slice_bounds-copy_from_slice-end : goal.slice_bounds-copy_from_slice-end
+slice_bounds-copy_from_slice-end c = omega (arith, nul_within)
 
-pub shape_of-out-then-b-eq0 : goal.shape_of-out-then-b-eq0
-shape_of-out-then-b-eq0 c = c.loop-i.invariant.long
+pub slice_bounds-copy_from_slice-end-2 : goal.slice_bounds-copy_from_slice-end-2
+slice_bounds-copy_from_slice-end-2 c = omega (arith, nul_within, length-take-le {A = ℕ})
 
-pub returns-then-b-eq0 : goal.returns-then-b-eq0
-returns-then-b-eq0 c = let asked = copied_nul _ _ _ _ c.loop-i.invariant c.loop-i-test.true c.if-b-eq0.true in record { value = asked.0; out_after = asked.1 }
+pub slice_bounds-copy_from_slice-end-3 : goal.slice_bounds-copy_from_slice-end-3
+slice_bounds-copy_from_slice-end-3 c = omega (arith, nul_within, length-take-le {A = ℕ})
 
-pub bounds-out-i : goal.bounds-out-i
-bounds-out-i c = omega (arith, c.loop-i.invariant.long, c.loop-i-test.true, c.requires)
+pub copy_from_slice-requires : goal.copy_from_slice-requires
+copy_from_slice-requires c = omega (arith, nul_within, length-take-le {A = ℕ})
 
-pub loop-i-preserved : goal.loop-i-preserved
-loop-i-preserved c = copied_more _ _ _ _ c.loop-i.invariant c.loop-i-test.true c.requires c.if-b-eq0.false
-
-pub shape_of-out : goal.shape_of-out
-shape_of-out c = c.loop-i.invariant.long
-
-pub returns : goal.returns
-returns c = let asked = copied_all _ _ _ _ c.loop-i.invariant c.loop-i-test.false in record { value = asked.0; out_after = asked.1 }
+pub returns-clause-out_after : goal.returns-clause-out_after
+returns-clause-out_after c = nul_over _ _ _ _ c.string_length-count.ensures c.copy_from_slice.ensures.after

@@ -3,13 +3,13 @@ use native.Mathlib.Omega.{arith}
 use Rattle.core_read.proofs.text.take_label.Goals as goal
 
 pub returns-then-count-data : goal.returns-then-count-data
-returns-then-count-data c = label_got _ _ _ c.in-At.is _ _ c.string_length-count.ensures (omega arith) c.advanced.ensures
+returns-then-count-data c = label_got _ _ _ c.in-Ok.is _ _ c.string_length-count.ensures (omega arith) c.advanced.ensures
 
 pub returns-else-count-data : goal.returns-else-count-data
-returns-else-count-data c = label_none _ _ _ c.in-At.is _ c.string_length-count.ensures (omega arith)
+returns-else-count-data c = label_none _ _ _ c.in-Ok.is _ c.string_length-count.ensures (omega arith)
 
 pub returns-else-at-data : goal.returns-else-at-data
-returns-else-at-data c = label_beyond _ _ _ c.in-At.is c.if-at-data.false
+returns-else-at-data c = label_beyond _ _ _ c.in-Ok.is c.if-at-data.false
 
-pub returns-in-Refused : goal.returns-in-Refused
-returns-in-Refused c = label_stays _ _ _ c.in-Refused.is
+pub returns-in-Err : goal.returns-in-Err
+returns-in-Err c = label_stays _ _ _ c.in-Err.is

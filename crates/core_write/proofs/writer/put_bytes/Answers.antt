@@ -1,22 +1,7 @@
-use mathlib.Core.Path.{refl, sym}
-use Prim.Native.Nat.{◌-◌, ◌≤◌, ◌<◌}
-use lib.ListN.{length}
-use lib.Seq.{take_all}
-use Rattle.core_write.proofs.Puts.{◌then◌, put_none, put_as, take_more}
+use mathlib.Core.Path.{refl}
 use native.Mathlib.Omega.{arith}
+use Rattle.core_write.proofs.Puts.{put_part}
 use Rattle.core_write.proofs.writer.put_bytes.Goals as goal
 
-pub loop-i-init : goal.loop-i-init
-loop-i-init c = (omega arith, put_none _ _)
-
-pub loop-i-preserved : goal.loop-i-preserved
-loop-i-preserved c =
-    let s = c.args.s.now in
-    let below : c.loop-i.i < length s = omega arith in
-    (omega arith, put_as refl (sym (take_more s c.loop-i.i below)) (c.loop-i.invariant.1 then c.put_byte-q.ensures))
-
 pub returns : goal.returns
-returns c =
-    let s = c.args.s.now in
-    let all : length s ≤ c.loop-i.i = omega arith in
-    put_as (omega arith) (take_all c.loop-i.i s all) c.loop-i.invariant.1
+returns c = put_part _ _ _ _ _ _ _ c.requires refl (omega arith) refl c.copy_from_slice.ensures.after

@@ -1,17 +1,13 @@
-use mathlib.Core.Path.{◌≡◌, refl, sym}
-use Prim.Native.Nat.{◌-◌}
-use Rattle.core_write.proofs.Puts.{◌then◌, put_none, put_as, replicate_more}
+use mathlib.Core.Path.{◌≡◌, refl}
+use Prim.Native.Nat.{ℕ, ◌+◌, ◌-◌}
 use native.Mathlib.Omega.{arith}
+use lib.ListN.{length, take, drop, length-drop, length-replicate}
+use lib.Seq.{length-take-le}
+use Rattle.core_write.proofs.Puts.{put_part}
 use Rattle.core_write.proofs.writer.put_zeros.Goals as goal
-
-pub loop-i-init : goal.loop-i-init
-loop-i-init c = (omega arith, put_none _ _)
-
-pub loop-i-preserved : goal.loop-i-preserved
-loop-i-preserved c =
-    (omega arith, put_as refl (sym (replicate_more c.loop-i.i)) (c.loop-i.invariant.1 then c.put_byte-q.ensures))
 
 pub returns : goal.returns
 returns c =
-    let e : c.loop-i.i ≡ c.args.n = omega arith in
-    rw (← e) c.loop-i.invariant.1
+    let all : length (take (c.args.p + c.args.n - c.args.p) (drop c.args.p c.args.out.now)) ≡ c.args.n =
+    omega (arith, length-take-le (c.args.p + c.args.n - c.args.p) (drop c.args.p c.args.out.now), length-drop {A = ℕ}) in
+    put_part _ _ _ _ _ _ _ c.requires refl (omega arith) (length-replicate c.args.n 0) (rw all at c.fill.ensures.after (λ y h. h))

@@ -1,11 +1,12 @@
-use Rattle.exports_parts.proofs.Outcomes.{caption_short, caption_bad, caption_given}
+use Rattle.std.proofs.Common.{Err, sym, ap, ◌∙◌}
+use Rattle.std.proofs.lemmas.Result.{err_from_is_err_and}
+use Rattle.exports_parts.proofs.Outcomes.{caption_fault, caption_given}
 use Rattle.exports_parts.proofs.parts.caption.Goals as goal
 
-pub returns-then-words-lt-RECORD_WORDS : goal.returns-then-words-lt-RECORD_WORDS
-returns-then-words-lt-RECORD_WORDS c = caption_short _ _ _ _ c.if-words-lt-RECORD_WORDS.true c.short_record.ensures
+pub returns-in_err-record_checked : goal.returns-in_err-record_checked
+returns-in_err-record_checked c =
+    let (y, p, q) = err_from_is_err_and c.from_residual.result c.from_residual.ensures.1 in
+    caption_fault _ _ _ _ _ (sym c.record_checked.ensures ∙ c.in_err-record_checked.was) (p ∙ ap Err q)
 
-pub returns-in-Bad : goal.returns-in-Bad
-returns-in-Bad c = caption_bad _ _ _ _ _ _ c.if-words-lt-RECORD_WORDS.false c.record_checked-c.ensures c.in-Bad.is c.bad_word.ensures
-
-pub returns-in-Good : goal.returns-in-Good
-returns-in-Good c = caption_given _ _ _ _ _ _ c.if-words-lt-RECORD_WORDS.false c.record_checked-c.ensures c.in-Good.is c.label_of-l.ensures c.caption_part.ensures
+pub returns : goal.returns
+returns c = caption_given _ _ _ _ _ _ (sym c.record_checked.ensures ∙ c.in_ok-record_checked.was) c.label_of-l.ensures c.part_or.ensures

@@ -4,4 +4,4 @@ use Rattle.exports_read.proofs.bodies.parse_ali1.Goals as goal
 
 pub returns : goal.returns
 unfolding body_parsed body_finished
-returns c = λ l. rw (← c.parse-read.ensures.value) (c.deliver_ali1.ensures l)
+returns c = λ l. rw (← c.parse-read.ensures.value) (c.deliver.ensures l)

@@ -4,4 +4,4 @@ use Rattle.exports_read.proofs.sections.read_ali1.Goals as goal
 
 pub returns : goal.returns
 unfolding body_read read_body
-returns c = λ l. rw (← c.read-read.ensures) (c.deliver_ali1.ensures l)
+returns c = λ l. rw (← c.read-read.ensures) (c.deliver.ensures l)

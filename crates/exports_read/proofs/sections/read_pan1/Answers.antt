@@ -4,4 +4,4 @@ use Rattle.exports_read.proofs.sections.read_pan1.Goals as goal
 
 pub returns : goal.returns
 unfolding body_read read_body
-returns c = λ l. rw (← c.read-read.ensures) (c.deliver_pan1.ensures l)
+returns c = λ l. rw (← c.read-read.ensures) (c.deliver.ensures l)

@@ -4,4 +4,4 @@ use Rattle.exports_read.proofs.sections.read_txt1.Goals as goal
 
 pub returns : goal.returns
 unfolding body_read read_body
-returns c = record { l_after = λ l. rw (← c.read-read.ensures.0) (c.deliver_txt1.ensures l); units_after = (c.read-read.ensures.1, c.read-read.ensures.2) }
+returns c = record { l_after = λ l. rw (← c.read-read.ensures.0) (c.deliver.ensures l); units_after = (c.read-read.ensures.1, c.read-read.ensures.2) }

@@ -1,4 +1,3 @@
-use Prim.Native.Nat.{◌-◌}
 use Rattle.flat.proofs.Storing.{loaded_none, loaded_more, loaded_all}
 use borrow.Author.Rules.{rules}
 use Rattle.flat.proofs.words.bytes_at.Goals as goal

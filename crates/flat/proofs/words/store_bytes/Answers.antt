@@ -1,13 +1,9 @@
-use Prim.Native.Nat.{◌-◌}
 use Rattle.flat.proofs.Storing.{stored_none, stored_more, stored_all}
 use native.Mathlib.Omega.{arith}
 use Rattle.flat.proofs.words.store_bytes.Goals as goal
 
 pub loop-i-init : goal.loop-i-init
 loop-i-init c = (omega arith, stored_none _ _ c.args.bytes.now)
-
-pub overflow_cast-out : goal.overflow_cast-out
-overflow_cast-out c = omega (arith, c.shared_slice_known-1.given c.loop-i.i)
 
 pub loop-i-preserved : goal.loop-i-preserved
 loop-i-preserved c =

@@ -1,7 +1,7 @@
 use Rattle.flat_records.proofs.typed.typed_lines.Goals as goal
 
-pub returns-in-Absent : goal.returns-in-Absent
-returns-in-Absent c = rw c.in-Absent.is tt
+pub returns-in-None : goal.returns-in-None
+returns-in-None c = rw c.in-None.is tt
 
-pub returns-in-Present : goal.returns-in-Present
-returns-in-Present c = rw c.in-Present.is c.typed_byte.ensures
+pub returns-in-Some : goal.returns-in-Some
+returns-in-Some c = rw c.in-Some.is c.typed_byte.ensures

@@ -5,4 +5,4 @@ use borrow.Author.Rules.{rules}
 use Rattle.floats.proofs.Binary32.through_value.Goals as goal
 
 pub returns : goal.returns
-returns c = c.of_value.ensures ∙ ap bits_of c.value.ensures ∙ value_back c.args.self (search rules)
+returns c = c.from-2.ensures ∙ ap bits_of c.from.ensures ∙ value_back c.args.self (search rules)

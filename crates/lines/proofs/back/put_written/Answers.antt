@@ -7,23 +7,23 @@ use Rattle.lines.specs.Back.{written_text}
 use Rattle.lines.proofs.back.put_written.Goals as goal
 
 pub slice_bounds-put_hexadecimal-end : goal.slice_bounds-put_hexadecimal-end
-slice_bounds-put_hexadecimal-end c = sym (length-take-le _ _ (c.requires.2 _ c.in-End.is))
+slice_bounds-put_hexadecimal-end c = sym (length-take-le _ _ (c.requires.2 _ c.in-Ok.is))
 
 pub put_hexadecimal-requires : goal.put_hexadecimal-requires
 put_hexadecimal-requires c =
-    let fits = c.requires.2 _ c.in-End.is in
+    let fits = c.requires.2 _ c.in-Ok.is in
     omega (arith, length-take-le _ c.args.section.now fits)
 
-pub returns-in-End : goal.returns-in-End
+pub returns-in-Ok : goal.returns-in-Ok
 unfolding written_text
-returns-in-End c =
-    let fits = c.requires.2 _ c.in-End.is in
+returns-in-Ok c =
+    let fits = c.requires.2 _ c.in-Ok.is in
     let long = length-take-le _ c.args.section.now fits in
     let space = c.put_bytes-q.ensures in
-    record { put = rw c.in-End.is (put_sized (space then c.put_hexadecimal.ensures)); upper_bound = omega arith }
+    record { put = rw c.in-Ok.is (put_sized (space then c.put_hexadecimal.ensures)); upper_bound = omega arith }
 
-pub returns-in-Refused : goal.returns-in-Refused
+pub returns-in-Err : goal.returns-in-Err
 unfolding written_text
-returns-in-Refused c =
+returns-in-Err c =
     let space = c.put_bytes-q.ensures in
-    record { put = rw c.in-Refused.is (put_sized (space then c.put_refusal.ensures.put)); upper_bound = omega arith }
+    record { put = rw c.in-Err.is (put_sized (space then c.put_refusal.ensures.put)); upper_bound = omega arith }

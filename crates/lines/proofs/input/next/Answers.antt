@@ -1,12 +1,12 @@
 use mathlib.Core.Path.{refl, ap}
 use native.Mathlib.Omega.{arith}
 use borrow.Author.Tests.{lt-ltb, le-ltb}
-use Rattle.lines.specs.Input.{remains, onward}
+use Rattle.lines.specs.Input.{remains, with_line, onward}
 use Rattle.lines.specs.declared.input.Input.{Input}
 use Rattle.lines.proofs.input.next.Goals as goal
 
 pub returns-then-input : goal.returns-then-input
-unfolding remains onward
+unfolding remains onward with_line
 returns-then-input g c =
     let count = ap (λ (x : Input). x.count) c.onward_in.ensures.value in
     let taken = c.if-input.true in

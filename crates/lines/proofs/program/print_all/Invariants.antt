@@ -1,10 +1,8 @@
-use mathlib.Core.Path.{◌≡◌}
-use Prim.Native.Nat.{◌≤◌}
-use lib.ListN.{length}
+use Rattle.std.proofs.Common.{length, ◌≤◌}
 use Rattle.lines.proofs.program.print_all.Given as goal
 
-abbrev pub invariant-loop-turns : goal.invariant-loop-turns
-invariant-loop-turns g l = (length l.out ≡ length l.initial.out) × (l.input.count ≤ length l.chunk)
+abbrev pub invariant-loop : goal.invariant-loop
+invariant-loop g l = l.input.count ≤ length l.chunk
 
-abbrev pub decreases-loop-turns : goal.decreases-loop-turns
-decreases-loop-turns g l = l.turns
+abbrev pub ghost-print_line : goal.ghost-print_line
+ghost-print_line g a = g.printed

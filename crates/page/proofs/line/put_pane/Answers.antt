@@ -10,7 +10,7 @@ use Rattle.core_read.specs.Bytes.{bytes_of}
 use Rattle.core_read.specs.declared.cursor.ByteOrder.TheVariants.{Little}
 use Rattle.core_write.proofs.Puts.{put_as}
 use Rattle.strip_write.proofs.Steps.{letters_bytes}
-use Rattle.page.proofs.Parts.{take_least}
+use Rattle.std.proofs.lemmas.List.{take_min}
 use Rattle.page.specs.PageLine.{pane_text}
 use borrow.Author.Rules.{rules}
 use Rattle.page.proofs.line.put_pane.Goals as goal
@@ -21,22 +21,22 @@ counted n s e h = length-take-le n s (omega (arith, e))
 
 pub put_quoted-p3-requires : goal.put_quoted-p3-requires
 put_quoted-p3-requires c =
-    let l = c.least-n in
+    let l = c.min-n in
     let long : length c.args.name.bytes ≡ 24 = search rules in
     omega (arith, counted l.result _ long (omega (arith, l.ensures)), l.ensures)
 
 pub put_size-requires : goal.put_size-requires
 put_size-requires c =
-    let l = c.least-n in
+    let l = c.min-n in
     let long : length c.args.name.bytes ≡ 24 = search rules in
     omega (arith, counted l.result _ long (omega (arith, l.ensures)), l.ensures)
 
 pub returns : goal.returns
 unfolding pane_text
 returns c =
-    let l = c.least-n in
+    let l = c.min-n in
     let long : length c.args.name.bytes ≡ 24 = search rules in
-    let name = ap (λ (k : ℕ). take k c.args.name.bytes) (l.ensures ∙ ap (min c.args.name.count) (sym long)) ∙ take_least c.args.name.count c.args.name.bytes in
+    let name = ap (λ (k : ℕ). take k c.args.name.bytes) (l.ensures ∙ ap (min c.args.name.count) (sym long)) ∙ take_min c.args.name.count c.args.name.bytes in
     let letters = put_as refl (ap (bytes_of Little 4) c.letters.ensures ∙ letters_bytes _) c.put_u32-p1.ensures in
     let quoted = rw name at c.put_quoted-p3.ensures.put in
     record { put = put_sized (((letters then c.put_bytes-p2.ensures) then quoted) then c.put_size.ensures.put); upper_bound = omega (arith, counted l.result _ long (omega (arith, l.ensures)), l.ensures) }

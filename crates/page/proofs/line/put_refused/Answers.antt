@@ -8,4 +8,4 @@ use Rattle.page.proofs.line.put_refused.Goals as goal
 
 pub returns : goal.returns
 unfolding refused_text place_text figure
-returns c = record { put = simp append_assoc (put_sized (simp append_assoc at (rw (c.b-b.ensures, c.a-a.ensures, c.number-number.ensures) at ((c.put_refusal-p1.ensures.put then c.put_number-p2.ensures.put) then c.put_sentence.ensures.put)))); upper_bound = omega arith }
+returns c = record { put = simp append_assoc (put_sized (simp append_assoc at ((c.put_refusal-p1.ensures.put then c.put_number-p2.ensures.put) then c.put_sentence.ensures.put))); upper_bound = omega arith }

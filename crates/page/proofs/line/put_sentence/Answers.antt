@@ -1,34 +1,70 @@
-use mathlib.Core.List.{append-nil}
+use mathlib.Core.Logic.{inl, inr}
 use native.Mathlib.Omega.{arith}
-use Rattle.lines.proofs.Sized.{put_sized, put_named}
-use borrow.Author.Tests.{eq-eqb, ne_eqb}
-use Rattle.page.specs.PageLine.{eof_text, no_nul_text, per_character_text, section_size_text, past_section_text, sentence}
+use Rattle.lines.proofs.Sized.{put_sized}
+use Rattle.page.specs.PageLine.{no_nul_text, per_character_text, sentence}
 use Rattle.page.proofs.line.put_sentence.Goals as goal
 
-pub returns-then-number-eq4 : goal.returns-then-number-eq4
-unfolding sentence eof_text
-returns-then-number-eq4 c = record { put = rw (eq-eqb _ _ c.if-number-eq4.true) (put_named (append-nil _) c.put_numbers.ensures.put); upper_bound = omega arith }
+pub returns-in-UnexpectedEof : goal.returns-in-UnexpectedEof
+unfolding sentence
+returns-in-UnexpectedEof c = record { put = rw c.in-UnexpectedEof.is c.put_eof.ensures.put; upper_bound = c.put_eof.ensures.upper_bound }
 
-pub returns-then-number-eq5 : goal.returns-then-number-eq5
+pub returns-in-NoNul : goal.returns-in-NoNul
 unfolding sentence no_nul_text
-returns-then-number-eq5 c = record { put = rw (ne_eqb _ _ c.if-number-eq4.false, eq-eqb _ _ c.if-number-eq5.true) c.put_number.ensures.put; upper_bound = omega arith }
+returns-in-NoNul c = record { put = rw c.in-NoNul.is c.put_number.ensures.put; upper_bound = omega arith }
 
-pub returns-then-number-eq6 : goal.returns-then-number-eq6
+pub returns-in-PerCharacter : goal.returns-in-PerCharacter
 unfolding sentence per_character_text
-returns-then-number-eq6 c = record { put = rw (ne_eqb _ _ c.if-number-eq4.false, ne_eqb _ _ c.if-number-eq5.false, eq-eqb _ _ c.if-number-eq6.true) c.put_number-then-number-eq6.ensures.put; upper_bound = omega arith }
+returns-in-PerCharacter c = record { put = rw c.in-PerCharacter.is c.put_number-in-PerCharacter.ensures.put; upper_bound = omega arith }
 
-pub returns-then-number-eq7 : goal.returns-then-number-eq7
+pub returns-in-IllFormedUtf8 : goal.returns-in-IllFormedUtf8
 unfolding sentence
-returns-then-number-eq7 c = record { put = rw (ne_eqb _ _ c.if-number-eq4.false, ne_eqb _ _ c.if-number-eq5.false, ne_eqb _ _ c.if-number-eq6.false, eq-eqb _ _ c.if-number-eq7.true) c.put_ill_formed.ensures.put; upper_bound = c.put_ill_formed.ensures.upper_bound }
+returns-in-IllFormedUtf8 c = record { put = rw c.in-IllFormedUtf8.is c.put_ill_formed.ensures.put; upper_bound = c.put_ill_formed.ensures.upper_bound }
 
-pub returns-then-number-eq8 : goal.returns-then-number-eq8
-unfolding sentence section_size_text
-returns-then-number-eq8 c = record { put = rw (ne_eqb _ _ c.if-number-eq4.false, ne_eqb _ _ c.if-number-eq5.false, ne_eqb _ _ c.if-number-eq6.false, ne_eqb _ _ c.if-number-eq7.false, eq-eqb _ _ c.if-number-eq8.true) c.put_numbers-then-number-eq8.ensures.put; upper_bound = omega arith }
-
-pub returns-then-number-eq19 : goal.returns-then-number-eq19
-unfolding sentence past_section_text
-returns-then-number-eq19 c = record { put = rw (ne_eqb _ _ c.if-number-eq4.false, ne_eqb _ _ c.if-number-eq5.false, ne_eqb _ _ c.if-number-eq6.false, ne_eqb _ _ c.if-number-eq7.false, ne_eqb _ _ c.if-number-eq8.false, eq-eqb _ _ c.if-number-eq19.true) (put_named (append-nil _) c.put_numbers-then-number-eq19.ensures.put); upper_bound = omega arith }
-
-pub returns : goal.returns
+pub returns-in-SectionSize : goal.returns-in-SectionSize
 unfolding sentence
-returns c = record { put = rw (ne_eqb _ _ c.if-number-eq4.false, ne_eqb _ _ c.if-number-eq5.false, ne_eqb _ _ c.if-number-eq6.false, ne_eqb _ _ c.if-number-eq7.false, ne_eqb _ _ c.if-number-eq8.false, ne_eqb _ _ c.if-number-eq19.false) (put_sized c.put_bytes.ensures); upper_bound = omega arith }
+returns-in-SectionSize c = record { put = rw c.in-SectionSize.is c.put_section_size.ensures.put; upper_bound = c.put_section_size.ensures.upper_bound }
+
+pub returns-in-PastSection : goal.returns-in-PastSection
+unfolding sentence
+returns-in-PastSection c = record { put = rw c.in-PastSection.is c.put_past_section.ensures.put; upper_bound = c.put_past_section.ensures.upper_bound }
+
+-- those that no walk gives
+pub returns-in-TooLong : goal.returns-in-TooLong
+unfolding sentence
+returns-in-TooLong c =
+    let put = put_sized c.put_bytes.ensures in
+    record {
+      put =
+          elim c.in-TooLong.is [
+            | inl e ↦ rw e.1 put
+            | inr r1 ↦ elim r1 [
+              | inl e ↦ rw e.1 put
+              | inr r2 ↦ elim r2 [
+                | inl e ↦ rw e.2 put
+                | inr r3 ↦ elim r3 [
+                  | inl e ↦ rw e.1 put
+                  | inr r4 ↦ elim r4 [
+                    | inl e ↦ rw e.1 put
+                    | inr r5 ↦ elim r5 [
+                      | inl e ↦ rw e.2 put
+                      | inr r6 ↦ elim r6 [
+                        | inl e ↦ rw e.2 put
+                        | inr r7 ↦ elim r7 [
+                          | inl e ↦ rw e.2 put
+                          | inr r8 ↦ elim r8 [
+                            | inl e ↦ rw e.1 put
+                            | inr r9 ↦ elim r9 [
+                              | inl e ↦ rw e put
+                              | inr r10 ↦ rw r10.2 put
+                            ]
+                          ]
+                        ]
+                      ]
+                    ]
+                  ]
+                ]
+              ]
+            ]
+          ];
+      upper_bound = omega arith;
+    }

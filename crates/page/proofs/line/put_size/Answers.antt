@@ -4,4 +4,4 @@ use Rattle.page.proofs.Parts.{size_parts}
 use Rattle.page.proofs.line.put_size.Goals as goal
 
 pub returns : goal.returns
-returns c = record { put = put_named (size_parts _ _) (rw c.size-n.ensures at c.put_numbers.ensures.put); upper_bound = omega arith }
+returns c = record { put = put_named (size_parts _ _) (rw c.saturating_sub-n.ensures at c.put_numbers.ensures.put); upper_bound = omega arith }

@@ -4,14 +4,14 @@ use Rattle.core_checks.proofs.Checked.{read_numbered}
 use Rattle.pane.proofs.body.parse.Goals as goal
 
 pub read-requires : goal.read-requires
-read-requires c = start_small _ _ _ (sym c.body_start-p.ensures ∙ c.in-At.is)
+read-requires c = start_small _ _ _ (sym c.body_start-p.ensures ∙ c.in-Ok.is)
 
-pub returns-in-At : goal.returns-in-At
-returns-in-At c =
-    let h = c.read.ensures ∙ parsed _ _ _ _ (sym c.body_start-p.ensures ∙ c.in-At.is) in
+pub returns-in-Ok : goal.returns-in-Ok
+returns-in-Ok c =
+    let h = c.read.ensures ∙ parsed _ _ _ _ (sym c.body_start-p.ensures ∙ c.in-Ok.is) in
     record { value = h; answer_value = read_numbered h (λ x. x.answer) }
 
-pub returns-in-Refused : goal.returns-in-Refused
-returns-in-Refused c =
-    let h = parsed_refused _ _ _ _ (sym c.body_start-p.ensures ∙ c.in-Refused.is) _ c.refused.ensures.0 c.refused.ensures.1 in
+pub returns-in-Err : goal.returns-in-Err
+returns-in-Err c =
+    let h = parsed_refused _ _ _ _ (sym c.body_start-p.ensures ∙ c.in-Err.is) _ c.refused.ensures.0 c.refused.ensures.1 in
     record { value = h; answer_value = read_numbered h (λ x. x.answer) }

@@ -6,6 +6,6 @@ unfolding texts_checked
 returns c = rw (
   c.stop_if.ensures,
   c.stop_if-p.ensures,
-  c.user_name_ill-user_ill.ensures,
-  c.pane_name_ill-ill.ensures,
+  c.string_ill-user_ill.ensures,
+  c.string_ill-ill.ensures,
 )

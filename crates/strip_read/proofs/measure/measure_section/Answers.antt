@@ -1,16 +1,24 @@
 use mathlib.Core.Path.{sym, ◌∙◌}
+use native.Mathlib.Omega.{arith}
 use Rattle.core_checks.proofs.Checked.{section_started}
-use Rattle.strip_read.proofs.Steps.{measured_numbered, measured_refused, measured_end, measured_goes}
+use Rattle.strip_read.proofs.Steps.{measured_numbered, measured_none, measured_body, measured_needs}
 use Rattle.strip_read.proofs.measure.measure_section.Goals as goal
 
-pub measure_at-requires : goal.measure_at-requires
-measure_at-requires c = let (e, a) = section_started _ _ _ (sym c.section_start-p.ensures ∙ c.in-At.is) in (a.within, a.most)
+pub body_at-requires : goal.body_at-requires
+body_at-requires c = λ d h. let (f, a) = section_started _ _ _ (sym c.section_start-checked.ensures ∙ h) in (a.within, a.most)
 
-pub returns-in-Refused : goal.returns-in-Refused
-returns-in-Refused c = let asked = measured_numbered (c.refused.ensures ∙ measured_refused _ _ _ _ c.section_start-p.ensures _ c.in-Refused.is) in record { value = asked.0; answer_value = asked.1 }
+pub overflow_add-place : goal.overflow_add-place
+overflow_add-place c = omega (arith, measured_needs _ _ _ _ c.section_start-checked.ensures _ (sym c.body_at.ensures ∙ c.in-Ok.is))
 
-pub returns-then-place-data : goal.returns-then-place-data
-returns-then-place-data c = let asked = measured_numbered (c.ended.ensures ∙ measured_end _ _ _ _ c.section_start-p.ensures _ c.in-At.is c.if-place-data.true) in record { value = asked.0; answer_value = asked.1 }
+pub measure_kind-read-requires : goal.measure_kind-read-requires
+measure_kind-read-requires c = (omega arith, omega (arith, measured_needs _ _ _ _ c.section_start-checked.ensures _ (sym c.body_at.ensures ∙ c.in-Ok.is)))
 
-pub returns-else-place-data : goal.returns-else-place-data
-returns-else-place-data c = let asked = measured_numbered (c.measure_at.ensures ∙ measured_goes _ _ _ _ c.section_start-p.ensures _ c.in-At.is c.if-place-data.false) in record { value = asked.0; answer_value = asked.1 }
+pub returns-in-Ok : goal.returns-in-Ok
+returns-in-Ok c =
+    let asked = measured_numbered (c.finish.ensures ∙ measured_body _ _ _ _ c.section_start-checked.ensures _ (sym c.body_at.ensures ∙ c.in-Ok.is) _ c.measure_kind-read.ensures) in
+    record { value = asked.0; answer_value = asked.1 }
+
+pub returns-in-Err : goal.returns-in-Err
+returns-in-Err c =
+    let asked = measured_numbered (measured_none _ _ _ _ c.section_start-checked.ensures _ (sym c.body_at.ensures ∙ c.in-Err.is)) in
+    record { value = asked.0; answer_value = asked.1 }

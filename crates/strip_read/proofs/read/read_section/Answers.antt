@@ -1,23 +1,27 @@
 use mathlib.Core.Path.{sym, ◌∙◌}
+use native.Mathlib.Omega.{arith}
 use Rattle.strip_records.specs.Whole.{lists}
 use Rattle.strip_read.proofs.Cleared.{read_started}
-use Rattle.strip_read.proofs.Steps.{numbered, read_refused, read_end, read_on}
+use Rattle.strip_read.proofs.Steps.{numbered, read_none, read_body_at, read_needs}
 use Rattle.strip_read.proofs.read.read_section.Goals as goal
 
-pub read_at-requires : goal.read_at-requires
-read_at-requires c = let (a, f) = read_started _ _ (lists _ _ _ _) _ (sym c.read_start-p.ensures ∙ c.in-At.is) in (a.within, a.most, f)
+pub body_at-requires : goal.body_at-requires
+body_at-requires c = λ d h. let (a, f) = read_started _ _ (lists _ _ _ _) _ (sym c.read_start-checked.ensures ∙ h) in (a.within, a.most)
 
-pub returns-in-Refused : goal.returns-in-Refused
-returns-in-Refused c =
-    let x = read_refused _ _ _ (lists _ _ _ _) _ c.read_start-p.ensures _ c.in-Refused.is in
-    let asked = numbered (c.refused.ensures ∙ x.0, x.1) in record { value = asked.0; frames_after = asked.1.0; answer_value = asked.1.1 }
+pub overflow_add-place : goal.overflow_add-place
+overflow_add-place c = omega (arith, (read_needs _ _ _ (lists _ _ _ _) _ c.read_start-checked.ensures _ (sym c.body_at.ensures ∙ c.in-Ok.is)).0)
 
-pub returns-then-place-data : goal.returns-then-place-data
-returns-then-place-data c =
-    let x = read_end _ _ _ (lists _ _ _ _) _ c.read_start-p.ensures _ c.in-At.is c.if-place-data.true in
-    let asked = numbered (c.ended.ensures ∙ x.0, x.1) in record { value = asked.0; frames_after = asked.1.0; answer_value = asked.1.1 }
+pub read_kind-read-requires : goal.read_kind-read-requires
+read_kind-read-requires c =
+    let x = read_needs _ _ _ (lists _ _ _ _) _ c.read_start-checked.ensures _ (sym c.body_at.ensures ∙ c.in-Ok.is) in
+    (omega arith, omega (arith, x.0), x.1)
 
-pub returns-else-place-data : goal.returns-else-place-data
-returns-else-place-data c =
-    let x = read_on _ _ _ (lists _ _ _ _) _ c.read_start-p.ensures _ c.in-At.is c.if-place-data.false in
-    let asked = numbered (c.read_at.ensures.value ∙ x.0, c.read_at.ensures.frames_after ∙ x.1) in record { value = asked.0; frames_after = asked.1.0; answer_value = asked.1.1 }
+pub returns-in-Ok : goal.returns-in-Ok
+returns-in-Ok c =
+    let x = read_body_at _ _ _ (lists _ _ _ _) _ c.read_start-checked.ensures _ (sym c.body_at.ensures ∙ c.in-Ok.is) _ _ c.read_kind-read.ensures.value c.read_kind-read.ensures.frames_after in
+    let asked = numbered (c.finish.ensures ∙ x.0, x.1) in record { value = asked.0; frames_after = asked.1.0; answer_value = asked.1.1 }
+
+pub returns-in-Err : goal.returns-in-Err
+returns-in-Err c =
+    let x = read_none _ _ _ (lists _ _ _ _) _ c.read_start-checked.ensures _ (sym c.body_at.ensures ∙ c.in-Err.is) in
+    let asked = numbered x in record { value = asked.0; frames_after = asked.1.0; answer_value = asked.1.1 }

@@ -1,10 +1,11 @@
-use Rattle.text_box.specs.Body.{text_box_write_checked}
-use Rattle.text_box.proofs.Calls.{ready, measured}
+use native.Mathlib.Omega.{arith}
+use Rattle.text_box.proofs.Calls.{ready_let, place_small, measured}
 use Rattle.text_box.proofs.body.write_checked.Goals as goal
 
-pub end_checked-requires : goal.end_checked-requires
-end_checked-requires c = λ d e. measured _ _ _ _ _ _ _ c.typed_text_box.ensures.long (ready _ _ _ _ _ _ _ d (rw (c.text_box_checked-p7.ensures, c.reserve_checked-p6.ensures, c.label_name_checked-p5.ensures, c.names_checked-p4.ensures, c.body_checked-p3.ensures, c.label_length_checked-p2.ensures, c.length_checked-p1.ensures, c.start.ensures) at e))
+pub text_box_length-own-requires : goal.text_box_length-own-requires
+text_box_length-own-requires c =
+    measured _ _ _ _ _ _ _ c.typed_text_box.ensures.long
+    (ready_let _ _ _ _ _ _ _ c.in_ok-length_checked.ensures c.in_ok-label_length_checked.ensures c.in_ok-body_checked.ensures c.in_ok-names_checked.ensures c.in_ok-label_name_checked.ensures c.in_ok-reserve_checked.ensures c.in_ok-text_box_checked.ensures)
 
-pub returns : goal.returns
-unfolding text_box_write_checked
-returns c = rw (c.end_checked.ensures, c.text_box_checked-p7.ensures, c.reserve_checked-p6.ensures, c.label_name_checked-p5.ensures, c.names_checked-p4.ensures, c.body_checked-p3.ensures, c.label_length_checked-p2.ensures, c.length_checked-p1.ensures, c.start.ensures)
+pub end_checked-requires : goal.end_checked-requires
+end_checked-requires c = omega (arith, place_small _ _ c.in_ok-length_checked.ensures c.in_ok-body_checked.ensures, c.text_box_length-own.ensures.1)

@@ -1,4 +1,3 @@
-use Prim.Native.Nat.{◌-◌}
 use Rattle.text_box_parts.proofs.Pairs.{paired_none, paired_more, paired_all}
 use lib.ListN.{length-set}
 use native.Mathlib.Omega.{arith}

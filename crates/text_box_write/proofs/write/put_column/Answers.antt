@@ -1,20 +1,29 @@
 use mathlib.Core.Path.{◌≡◌}
-use Prim.Native.Nat.{◌-◌}
+use Prim.Native.Nat.{◌*◌}
+use lib.Seq.{length-take-le}
+use native.Mathlib.Omega.{arith}
 use Rattle.core_read.specs.Bytes.{bytes_of_all}
 use Rattle.core_write.proofs.Puts.{◌then◌, put_none, put_as}
 use Rattle.text_box_parts.specs.Parts.{column}
 use Rattle.text_box_write.proofs.Columns.{column_bytes}
-use native.Mathlib.Omega.{arith}
 use Rattle.text_box_write.proofs.write.put_column.Goals as goal
 
-pub loop-i-init : goal.loop-i-init
+pub loop-pair-init : goal.loop-pair-init
 unfolding bytes_of_all column
-loop-i-init c = (omega arith, put_none _ _)
+loop-pair-init c = put_none _ _
 
-pub loop-i-preserved : goal.loop-i-preserved
-loop-i-preserved c = (omega arith, put_as (omega arith) (column_bytes _ _ _ _) (c.loop-i.invariant.1 then c.put_u32-q.ensures))
+pub loop-pair-preserved : goal.loop-pair-preserved
+loop-pair-preserved c =
+    let a = c.args in
+    let l = a.lines.now in
+    let front = length-take-le (2 * a.n) l (omega arith) in
+    put_as (omega arith)
+    (column_bytes _ l a.k c.loop-pair.pair-index a.n _ c.as_chunks.ensures.front (omega (arith, c.as_chunks.ensures.front_len, front)) (omega arith) (omega arith))
+    (c.loop-pair.invariant then c.put_u32-q.ensures)
 
 pub returns : goal.returns
 returns c =
-    let e : c.loop-i.i ≡ c.args.n = omega arith in
-    rw (← e) c.loop-i.invariant.1
+    let a = c.args in
+    let front = length-take-le (2 * a.n) a.lines.now (omega arith) in
+    let all : c.loop-pair.pair-index ≡ a.n = omega (arith, c.as_chunks.ensures.front_len, front) in
+    rw all at c.loop-pair.invariant

@@ -1,4 +1,3 @@
-use Prim.Native.Nat.{◌-◌}
 use Rattle.core_read.proofs.Lists.{filled_none, filled_all}
 use Rattle.ui2d.proofs.QuadRuns.{quad_filled}
 use native.Mathlib.Omega.{arith}

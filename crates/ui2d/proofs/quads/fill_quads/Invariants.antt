@@ -1,9 +1,6 @@
-use Prim.Native.Nat.{◌-◌, ◌*◌}
+use Prim.Native.Nat.{◌*◌}
 use Rattle.core_read.proofs.Lists.{Filled}
 use Rattle.ui2d.proofs.quads.fill_quads.Given as goal
 
 abbrev pub invariant-loop-i : goal.invariant-loop-i
 invariant-loop-i l = Filled l.order 4 l.data l.at (8 * l.n) l.initial.list l.list (8 * l.i)
-
-abbrev pub decreases-loop-i : goal.decreases-loop-i
-decreases-loop-i l = l.n - l.i

@@ -9,5 +9,5 @@ unfolding moved_on
 returns c =
     let w : Walk = c.args.self.now in
     let read = c.read_section-read.ensures in
-    let place = c.place_of-self.ensures ∙ ap (λ (r : SectionRead). place_after w.place r.answer) read.value in
+    let place = c.place_after-self.ensures ∙ ap (λ (r : SectionRead). place_after w.place r.answer) read.value in
     (read.value, read.frames_after, ap (λ n. record { «data» = w.«data»; place = n }) place, read.answer_value)

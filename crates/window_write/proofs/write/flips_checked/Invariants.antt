@@ -1,11 +1,10 @@
 use mathlib.Core.Path.{◌≡◌}
-use Prim.Native.Nat.{◌-◌, ◌*◌, ◌/◌, ◌≤◌}
-use lib.ListN.{length, drop}
+use Prim.Native.Nat.{◌*◌}
+use lib.ListN.{drop}
+use Rattle.core_read.specs.declared.cursor.Cursor.{Cursor}
 use Rattle.window_write.specs.Write.{flips_checked}
+use Rattle.std.specs.Prelude.{Ok}
 use Rattle.window_write.proofs.write.flips_checked.Given as goal
 
-abbrev pub invariant-loop-i : goal.invariant-loop-i
-invariant-loop-i l = (l.i ≤ length l.frames / 2) × (flips_checked l.p l.i (drop (2 * l.i) l.frames) ≡ flips_checked l.initial.p 0 l.frames)
-
-abbrev pub decreases-loop-i : goal.decreases-loop-i
-decreases-loop-i l = length l.frames / 2 - l.i
+abbrev pub invariant-loop-frame : goal.invariant-loop-frame
+invariant-loop-frame l = (c : Cursor) → flips_checked (Ok c) l.frame (drop (2 * l.frame) l.frames) ≡ flips_checked (Ok c) 0 l.frames

@@ -9,7 +9,7 @@ unfolding encode_head
 returns c =
     c.put_borders-q.ensures
     then c.put_u8-q.ensures
-    then put_as refl (ap (bytes_of _ 1) c.encode-flag.ensures) c.put_u8-q-2.ensures
+    then put_as refl (ap (bytes_of _ 1) c.from-flag.ensures) c.put_u8-q-2.ensures
     then c.put_u16-q.ensures
     then c.put_u32-q.ensures
     then c.put_u32.ensures

@@ -1,8 +1,0 @@
-use native.Mathlib.Nat.{div-one}
-use Rattle.flags.specs.Fields.{pane_flags_of}
-use Rattle.flags.proofs.pane.PaneFlags.decode.Goals as goal
-
--- `pane::PaneFlags::decode` meets its contract.
-pub returns : goal.returns
-unfolding pane_flags_of
-returns c = rw (div-one c.args.raw)

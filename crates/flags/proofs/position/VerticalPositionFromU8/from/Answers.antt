@@ -1,0 +1,10 @@
+use Prim.Native.Nat.{◌≤◌}
+use native.Mathlib.Omega.{arith}
+use mathlib.Core.Path.{sym}
+use mathlib.Core.List.{[], ◌∷◌}
+use Rattle.flags.specs.declared.position.VerticalPosition.TheVariants.{Center, Top, Bottom}
+use Rattle.flags.proofs.Enums.{unknown_first}
+use Rattle.flags.proofs.position.VerticalPositionFromU8.from.Goals as goal
+
+pub returns-in_default : goal.returns-in_default
+returns-in_default c = sym (unknown_first Center (Top ∷ Bottom ∷ []) c.args.n (λ (h : c.args.n ≤ 2). omega arith))

@@ -1,4 +1,0 @@
-use Rattle.flat_records.proofs.bounds.pic1_checked.Goals as goal
-
-pub returns : goal.returns
-returns c = rw (c.below.ensures, c.below-c-3.ensures, c.below-c-2.ensures, c.below-c.ensures)

@@ -1,5 +1,0 @@
-use Rattle.strip_records.proofs.Bounded.{below_all}
-use Rattle.strip.proofs.record.typed_u32s.Goals as goal
-
-pub returns : goal.returns
-returns c = below_all _ _ (λ i. (c.shared_slice_known-1.given i).fits)

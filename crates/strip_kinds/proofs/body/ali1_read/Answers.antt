@@ -1,5 +1,0 @@
-use mathlib.Core.Path.{refl}
-use Rattle.strip_kinds.proofs.body.ali1_read.Goals as goal
-
-pub returns : goal.returns
-returns c = rw (c.blank_window.ensures, c.blank_text_box.ensures, c.blank_picture.ensures) (refl, refl)

@@ -41,6 +41,31 @@ RENAMED = [
     (r"\bUtf16\b", "Option ℕ"),
     (r"\bOrderFound\b", "Option ByteOrder"),
     (r"\bChecked\.Good\b|(?<![\w.])Good\b", "good"),
+    (r"\bPaneTaken\b", "Taken Pane"),
+    (r"\bMaterialTaken\b", "Taken Material"),
+    (r"\bAlignmentTaken\b", "Taken AlignmentPane"),
+    (r"\bContentTaken\b", "Taken WindowContent"),
+    (r"\bFrameTaken\b", "Taken WindowFrame"),
+    (r"\bFontTaken\b", "Taken TextFont"),
+    (r"\bShadowTaken\b", "Taken TextShadow"),
+    (r"\bFixedTaken\b", "Taken TextFixed"),
+    (r"\bTextTaken\b", "Taken TextFound"),
+    (r"\bLabelTaken\b", "Taken Label"),
+    (r"\bLinesTaken\b", "Taken LinesFound"),
+    (r"\bPictureTaken\b", "Taken PictureFound"),
+    (r"\bTextBoxTaken\b", "Taken TextBoxFound"),
+    (r"\bWindowTaken\b", "Taken WindowFound"),
+    (r"\b(Picture|TextBox|Window)Measured\b", r"Taken Measured \1Found"),
+    (r"\bAlignmentMeasured\b", "Taken Measured AlignmentPane"),
+    (r"\bPaneParsed\b", "Parsed Unit {0}"),
+    (r"\b(Picture|TextBox|Window|Alignment)Parsed\b", r"Parsed \1Pane"),
+    (r"\b1 2040\b", "Quads 2040"),
+    (r"\b2 32767\b", "Units 32767"),
+    (r"\b3 510\b", "Lines 510"),
+    (r"\b4 510\b", "Frames 510"),
+    (r"\bBadName 1\b", "BadName PaneName"),
+    (r"\bBadName 2\b", "BadName UserName"),
+    (r"\bBadName 3\b", "BadName Label"),
 ]
 
 
@@ -68,7 +93,7 @@ def functions(tree):
         crate = path[len(tree) :].split("/")[2]
         text = open(path, encoding="utf-8").read()
         owner = ""
-        for m in re.finditer(r"^impl(?:<[^>]*>)? ([^\n{]+) \{|^pub trait (\w+)|^\}|^( *)(pub(?:\(crate\))? )?(?:extern \"C\" )?fn (\w+).*?(?=^ *\{|;$)", text, re.M | re.S):
+        for m in re.finditer(r"^impl(?:<[^>]*>)? ([^\n{]+) \{|^pub trait (\w+)|^\}|^( *)(pub(?:\(crate\))? )?(?:extern \"C\" )?fn (\w+).*?(?=^ *\{|;$| \{$)", text, re.M | re.S):
             if m.group(1) or m.group(2):
                 owner = (m.group(1) or m.group(2)) + "::"
             elif m.group(0) == "}":

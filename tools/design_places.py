@@ -141,6 +141,7 @@ ROWS = [
     ("5", "functions that take order and data", lambda: travelling("order", "data")),
     ("5", "functions that take quads, units, lines and frames", lambda: travelling("quads", "units", "lines", "frames")),
     ("5", "functions that take out and p", lambda: travelling("out", "p")),
+    ("5", "functions that take out and place", lambda: travelling("out", "place")),
     ("6", "bytes with a count beside them", lambda: lines_of(r"^    pub count: usize|^    pub digits: usize")),
     ("7", "enums that choose a step", lambda: lines_of(r"enum Printed\b")),
     ("8", "lines of proofs of functions", lambda: proof_lines(r"") and [p for p in proof_lines(r"\S") if re.search(r"proofs/.*/(Answers|Invariants)\.antt", p)]),

@@ -19,7 +19,7 @@ use Rattle.pane.proofs.Back.{length_pane}
 use Rattle.alignment_fields.specs.Alignment.{byte_bool, bool_byte, alignment_taken, encode_alignment, TypedAlignment}
 use Rattle.alignment.specs.Body.{encode_body}
 use Rattle.alignment_fields.specs.declared.AlignmentPane.{AlignmentPane}
-use Rattle.alignment_fields.specs.declared.AlignmentTaken.{AlignmentTaken}
+use Rattle.core_read.specs.Taken.{Taken}
 use Rattle.std.specs.Prelude.{Ok}
 
 bool_back : (b : Bool) → byte_bool (bool_byte b) ≡ b
@@ -35,7 +35,7 @@ unfolding encode_alignment
 length_alignment order a = simp (length-append, length_bytes)
 
 from : {s : List ℕ} (c : Cursor) (order : ByteOrder) (a : AlignmentPane) → TypedAlignment a → Holds s (c.pos + 0) (encode_alignment order a)
-    → ◌≡◌ {A = AlignmentTaken} (alignment_taken order s (Ok (advanced c 0))) (record { alignment = a; then = Ok (advanced c 12) })
+    → ◌≡◌ {A = Taken AlignmentPane} (alignment_taken order s (Ok (advanced c 0))) (record { value = a; then = Ok (advanced c 12) })
 unfolding encode_alignment alignment_taken
 from c order a t h =
     let (a₁, r₁) = cut c 0 4 _ _ (length_bytes order 4 a.direction) h in
@@ -53,7 +53,7 @@ from c order a t h =
     )
 
 pub alignment_back : {s : List ℕ} (c : Cursor) (order : ByteOrder) (a : AlignmentPane) → TypedAlignment a → Holds s c.pos (encode_alignment order a)
-    → ◌≡◌ {A = AlignmentTaken} (alignment_taken order s (Ok c)) (record { alignment = a; then = Ok (advanced c 12) })
+    → ◌≡◌ {A = Taken AlignmentPane} (alignment_taken order s (Ok c)) (record { value = a; then = Ok (advanced c 12) })
 alignment_back {s} c order a t h =
     let k : Holds s (c.pos + 0) (encode_alignment order a) = rw (add-zero c.pos) h in
     rw (advanced_zero c) at (from {s = s} c order a t k)

@@ -1,1 +1,1 @@
-pub mod Here
+pub mod Bools

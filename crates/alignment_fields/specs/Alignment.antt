@@ -2,11 +2,10 @@
 use Rattle.std.specs.Prelude.{ℕ, ◌^◌, ◌<◌, Bool, false, not, cond, List, ◌++◌, eqb}
 use Rattle.core_read.specs.Bytes.{bytes_of}
 use Rattle.core_read.specs.Taken.{u8_taken, u16_taken, u32_taken, Place}
-use Rattle.core_read.specs.declared.cursor.Taken.{Taken}
+use Rattle.core_read.specs.Taken.{Taken}
 use Rattle.core_read.specs.declared.cursor.ByteOrder.{ByteOrder}
 use Rattle.floats.specs.Floats.{float}
 use Rattle.alignment_fields.specs.declared.AlignmentPane.{AlignmentPane}
-use Rattle.alignment_fields.specs.declared.AlignmentTaken.{AlignmentTaken}
 
 -- a bool and its byte
 abbrev pub byte_bool : ℕ → Bool
@@ -15,7 +14,7 @@ byte_bool n = not (eqb n 0)
 abbrev pub bool_byte : Bool → ℕ
 bool_byte b = cond b 1 0
 
-unfoldable pub alignment_taken : ByteOrder → List ℕ → Place → AlignmentTaken
+unfoldable pub alignment_taken : ByteOrder → List ℕ → Place → Taken AlignmentPane
 alignment_taken order s p =
     let direction : Taken ℕ = u32_taken order s p in
     let margin : Taken ℕ = u32_taken order s direction.then in
@@ -23,7 +22,7 @@ alignment_taken order s p =
     let vertical : Taken ℕ = u8_taken order s last.then in
     let reserve : Taken ℕ = u16_taken order s vertical.then in
     record {
-      alignment = record {
+      value = record {
         direction = direction.value;
         default_margin = float margin.value;
         is_align_last_pane = byte_bool last.value;

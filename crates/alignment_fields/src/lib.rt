@@ -2,12 +2,12 @@
 #![tactic(auto)]
 
 ghost use Rattle.std.specs.Prelude.{◌≡◌};
-ghost use Rattle.core_read.specs.Bytes.{Room, Put};
+ghost use Rattle.core_write.specs.Puts.{HasRoom, Puts};
 ghost use Rattle.alignment_fields.specs.Alignment.{alignment_taken, blank_alignment, encode_alignment, TypedAlignment};
 
-use core_read::cursor;
-use core_read::cursor::{ByteOrder, Cursor, Place};
-use core_write::writer;
+use core_read::error::Refusal;
+use core_read::reader::{Field, Reader, Source};
+use core_write::writer::Writer;
 use floats::Binary32;
 
 #[derive(Clone, Copy)]
@@ -18,76 +18,42 @@ pub struct AlignmentPane {
     pub is_vertical_alignment: bool,
 }
 
-#[derive(Clone, Copy)]
-pub struct AlignmentTaken {
-    pub alignment: AlignmentPane,
-    pub then: Place,
-}
+// The reserved u16 is read, and kept nowhere.
+impl Field for AlignmentPane {
+    ghost taken = { alignment_taken };
 
-// Field by field. The reserved u16 is read, and kept nowhere.
-fn take_fields(order: ByteOrder, data: &[u8], p: Place) -> AlignmentTaken
-    ensures { result ≡ alignment_taken order «data».now p }
-{
-    let direction = cursor::take_u32(order, data, p);
-    let p1 = direction.then;
-    let margin = cursor::take_u32(order, data, p1);
-    let p2 = margin.then;
-    let last = cursor::take_u8(order, data, p2);
-    let p3 = last.then;
-    let vertical = cursor::take_u8(order, data, p3);
-    let p4 = vertical.then;
-    let reserve = cursor::take_u16(order, data, p4);
-    let then = reserve.then;
-    AlignmentTaken {
-        alignment: AlignmentPane {
-            direction: direction.value,
-            default_margin: Binary32 { bits: margin.value },
-            is_align_last_pane: last.value != 0,
-            is_vertical_alignment: vertical.value != 0,
-        },
-        then,
-    }
-}
+    const WIDTH: usize = 12;
 
-// The fields of the 12 bytes at a cursor.
-fn alignment_at(order: ByteOrder, data: &[u8], c: Cursor) -> AlignmentTaken
-    requires { Room «data».now c.pos 12 }
-    ensures { result ≡ alignment_taken order «data».now (Ok c) }
-{
-    let at = c.pos;
-    let last = data[at + 8];
-    let vertical = data[at + 9];
-    let direction = cursor::u32_at(order, data, at);
-    let margin = cursor::u32_at(order, data, at + 4);
-    AlignmentTaken {
-        alignment: AlignmentPane {
+    ghost WIDTH = { 12 };
+
+    #[tactic(auto, unfolding(crate::specs::Alignment::alignment_taken, core_read::specs::Taken::number_taken))]
+    fn fields<'a, 's>(r: &'s mut Reader<'a>) -> Result<AlignmentPane, Refusal> {
+        let direction = r.number::<u32>()?;
+        let default_margin = Binary32 { bits: r.number()? };
+        let last = r.number::<u8>()?;
+        let vertical = r.number::<u8>()?;
+        r.number::<u16>()?;
+        Ok(AlignmentPane {
             direction,
-            default_margin: Binary32 { bits: margin },
+            default_margin,
             is_align_last_pane: last != 0,
             is_vertical_alignment: vertical != 0,
-        },
-        then: Ok(c.advanced(12)),
+        })
     }
-}
 
-// One test where all 12 bytes are there.
-pub fn take_alignment(order: ByteOrder, data: &[u8], p: Place) -> AlignmentTaken
-    ensures { result ≡ alignment_taken order «data».now p }
-{
-    match p {
-        Ok(c) => {
-            let at = c.pos;
-            if at < data.len() {
-                if 12 <= data.len() - at {
-                    return alignment_at(order, data, c);
-                }
-            }
-            take_fields(order, data, Ok(c))
+    fn at<'a>(source: Source<'a>, at: usize) -> AlignmentPane {
+        AlignmentPane {
+            direction: source.number_at(at),
+            default_margin: Binary32 {
+                bits: source.number_at(at + 4),
+            },
+            is_align_last_pane: source.number_at::<u8>(at + 8) != 0,
+            is_vertical_alignment: source.number_at::<u8>(at + 9) != 0,
         }
-        Err(why) => take_fields(order, data, Err(why)),
     }
 }
 
+#[tactic(auto, unfolding(crate::specs::Alignment::blank_alignment))]
 pub fn blank_alignment() -> AlignmentPane
     ensures { result ≡ blank_alignment }
 {
@@ -99,17 +65,23 @@ pub fn blank_alignment() -> AlignmentPane
     }
 }
 
-pub fn put_alignment(order: ByteOrder, out: &mut [u8], p: usize, a: AlignmentPane) -> usize
-    requires { Room out.old p 12 }
-    ensures { Put out.old p 12 (encode_alignment order a) result out.new }
+impl Default for AlignmentPane {
+    ghost is_default = { λ a. a ≡ blank_alignment };
+
+    fn default() -> AlignmentPane {
+        blank_alignment()
+    }
+}
+
+pub fn put_alignment<'a, 's>(w: &'s mut Writer<'a>, a: AlignmentPane)
+    requires { HasRoom w.old 12 }
+    ensures { Puts w.old w.new 12 (λ order. encode_alignment order a) }
 {
-    let last = u8::from(a.is_align_last_pane);
-    let vertical = u8::from(a.is_vertical_alignment);
-    let q = writer::put_u32(order, out, p, a.direction);
-    let q = writer::put_u32(order, out, q, a.default_margin.bits);
-    let q = writer::put_u8(order, out, q, last);
-    let q = writer::put_u8(order, out, q, vertical);
-    writer::put_u16(order, out, q, 0)
+    w.put_number(a.direction);
+    w.put_number(a.default_margin.bits);
+    w.put_number(u8::from(a.is_align_last_pane));
+    w.put_number(u8::from(a.is_vertical_alignment));
+    w.put_number(0u16);
 }
 
 // Every alignment pane is one that TypedAlignment describes.

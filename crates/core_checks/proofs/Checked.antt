@@ -1,5 +1,5 @@
 -- What passed checks tell, and what lets a check pass.
-use mathlib.Core.Path.{◌≡◌, refl, sym, ap, ◌∙◌}
+use mathlib.Core.Path.{◌≡◌, refl, ap}
 use Prim.Native.Nat.{ℕ, ◌+◌, ◌*◌, ◌%◌, ◌≤◌}
 use mathlib.Core.List.{List}
 use native.Mathlib.Omega.{arith}
@@ -7,10 +7,11 @@ use mathlib.Core.Bool.{Bool, true, false, ◌||◌}
 use lib.Dec.{ltb}
 use borrow.Author.Tests.{ltb-false, le-ltb}
 use Rattle.core_read.specs.Taken.{start, stop_if, Place}
-use Rattle.core_checks.specs.Checks.{length_checked, body_checked, section_checked, body_start, section_start, list_checked, count_bad, count_checked, end_checked, reach_checked, unless_refused, written_of, parsed_by_number, written_by_number, Extent, Written}
+use Rattle.core_checks.specs.Checks.{length_checked, body_checked, section_checked, body_start, section_start, list_checked, count_bad, count_checked, end_checked, reach_checked, unless_refused, written_of, written_by_number, Extent, Written}
 use Rattle.core_read.specs.Bytes.{splice, Put}
+use Rattle.core_read.specs.declared.error.NumberList.{NumberList}
 use Rattle.core_read.specs.declared.error.Refusal.{Refusal}
-use Rattle.core_read.specs.declared.error.Refusal.TheVariants.{OutputEnd, PastSection}
+use Rattle.core_read.specs.declared.error.Refusal.TheVariants.{PastSection}
 use Rattle.core_read.specs.declared.cursor.Cursor.{Cursor}
 use Rattle.core_read.proofs.Runs.{cleared, passed}
 use Rattle.std.specs.Prelude.{Err, None, Ok, Some}
@@ -40,11 +41,11 @@ section_cleared p n place c e =
     let z : place % 4 ≤ 0 = ltb-false _ _ h.1 in
     (k.0, ltb-false _ _ k.1, omega arith)
 
-pub list_cleared : (p : Place) (list need n : ℕ) (c : Cursor) → list_checked p list need n ≡ Ok c → (p ≡ Ok c) × (need ≤ n)
+pub list_cleared : (p : Place) (list : NumberList) (need n : ℕ) (c : Cursor) → list_checked p list need n ≡ Ok c → (p ≡ Ok c) × (need ≤ n)
 unfolding list_checked
 list_cleared p list need n c e = let h = cleared p _ _ c e in (h.0, ltb-false _ _ h.1)
 
-pub count_cleared : (p : Place) (list w n : ℕ) (c : Cursor) → count_checked p list w n ≡ Ok c → (p ≡ Ok c) × (n % w ≡ 0) × (n ≤ 255 * w)
+pub count_cleared : (p : Place) (list : NumberList) (w n : ℕ) (c : Cursor) → count_checked p list w n ≡ Ok c → (p ≡ Ok c) × (n % w ≡ 0) × (n ≤ 255 * w)
 unfolding count_checked count_bad
 count_cleared p list w n c e =
     let h = cleared p _ _ c e in
@@ -75,28 +76,6 @@ pub reach_stays : (why : Refusal) (x : Extent) → reach_checked (Err why) x ≡
 unfolding reach_checked
 reach_stays why None = refl
 reach_stays why (Some end) = refl
-
--- the same check, as the code makes it
-module _ (p : Place) (x : Extent) where
-  pub reach_here : (c : Cursor) (end : ℕ) → p ≡ Ok c → x ≡ Some end → stop_if (Ok c) (ltb end c.reach) (PastSection c.reach end) ≡ reach_checked p x
-  unfolding reach_checked
-  reach_here c end e f = rw (e, f)
-
-  pub reach_free : (c : Cursor) → p ≡ Ok c → x ≡ None → Ok c ≡ reach_checked p x
-  unfolding reach_checked
-  reach_free c e f = rw (e, f)
-
-  pub reach_refused : (why : Refusal) → p ≡ Err why → Err why ≡ reach_checked p x
-  reach_refused why e = sym (reach_stays why x) ∙ ap (λ (q : Place). reach_checked q x) (sym e)
-
--- 16, as the code makes it
-pub end_here : (p : Place) (end n : ℕ) (c : Cursor) → p ≡ Ok c → stop_if (Ok c) (ltb n end) (OutputEnd end n) ≡ end_checked p end n
-unfolding end_checked
-end_here p end n c e = rw e
-
-pub end_stays : (p : Place) (end n : ℕ) (why : Refusal) → p ≡ Err why → Err why ≡ end_checked p end n
-unfolding end_checked stop_if
-end_stays p end n why e = rw e
 
 -- what checks 1 and 2 tell of a buffer of n bytes
 pub record BodyOk (n b : ℕ) : Type 0 where
@@ -136,7 +115,7 @@ pub section_passes : (n place : ℕ) → SectionOk n place → section_start n p
 unfolding section_start section_checked length_checked stop_if
 section_passes n place h = rw (le-ltb 16777216 n h.most, le-ltb n place h.within, h.whole)
 
-pub list_passes : (c : Cursor) (list need n : ℕ) → need ≤ n → list_checked (Ok c) list need n ≡ Ok c
+pub list_passes : (c : Cursor) (list : NumberList) (need n : ℕ) → need ≤ n → list_checked (Ok c) list need n ≡ Ok c
 unfolding list_checked
 list_passes c list need n h = passed c _ _ (le-ltb n need h)
 
@@ -145,7 +124,7 @@ unfolding end_checked
 end_passes c end n h = passed c _ _ (le-ltb n end h)
 
 -- of any run, refused or not
-pub list_enough : (p : Place) (list need n : ℕ) → need ≤ n → list_checked p list need n ≡ p
+pub list_enough : (p : Place) (list : NumberList) (need n : ℕ) → need ≤ n → list_checked p list need n ≡ p
 unfolding list_checked stop_if
 list_enough (Ok c) list need n h = rw (le-ltb n need h)
 list_enough (Err why) list need n h = refl
@@ -162,19 +141,7 @@ pub wrote : {o o' e : List ℕ} {at w r : ℕ} {c : Cursor} (p : Place) (kept : 
 unfolding written_of unless_refused
 wrote p kept h k = rw (h, k.place, k.bytes) (refl, refl)
 
-pub not_wrote : (o new : List ℕ) (end : ℕ) (p : Place) (why : Refusal) → p ≡ Err why
-    → (Err why ≡ written_of p end) × (o ≡ unless_refused p o new)
-unfolding written_of unless_refused
-not_wrote o new end p why h = rw h (refl, refl)
-
 -- ---- what is known by the case is known by its number
-
-pub read_numbered : {P : Type 0} {r w : P} → r ≡ w → (answer : P → Place) → parsed_by_number (answer r) ≡ parsed_by_number (answer w)
-read_numbered e answer = ap (λ x. parsed_by_number (answer x)) e
 
 pub write_numbered : {B : Type 0} {r w : Written} → (r ≡ w) × B → (r ≡ w) × (B × (written_by_number r ≡ written_by_number w))
 write_numbered h = (h.0, (h.1, ap written_by_number h.0))
-
--- and what was promised by number besides is left
-pub by_case : {A B N : Type 0} → A × (B × N) → A × B
-by_case h = (h.0, h.1.0)

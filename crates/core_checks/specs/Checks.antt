@@ -2,6 +2,7 @@
 use Rattle.std.specs.Prelude.{ℕ, ◌*◌, ◌%◌, Bool, ◌||◌, [], ◌∷◌, ltb, Err, None, Ok, Some, Result, Option}
 use Rattle.core_read.specs.Refusals.{ByNumber, accepted, refusal_by_number}
 use Rattle.core_read.specs.Taken.{start, stop_if, Place}
+use Rattle.core_read.specs.declared.error.NumberList.{NumberList}
 use Rattle.core_read.specs.declared.error.Refusal.{Refusal}
 use Rattle.core_read.specs.declared.error.Refusal.TheVariants.{TooLong, BadPlace, ShortList, ListLength, OutputEnd, PastSection}
 
@@ -33,14 +34,14 @@ unfoldable pub section_start : ℕ → ℕ → Place
 section_start n place = section_checked (length_checked (Ok (start place)) n) n place
 
 -- 3: a lent list of n numbers is short of its need
-unfoldable pub list_checked : Place → ℕ → ℕ → ℕ → Place
+unfoldable pub list_checked : Place → NumberList → ℕ → ℕ → Place
 list_checked p list need n = stop_if p (ltb n need) (ShortList list need)
 
 -- 11: a list to write of n numbers, width an entry, is no whole number of entries, or more than 255 of them
 unfoldable pub count_bad : ℕ → ℕ → Bool
 count_bad width n = ltb 0 (n % width) || ltb (255 * width) n
 
-unfoldable pub count_checked : Place → ℕ → ℕ → ℕ → Place
+unfoldable pub count_checked : Place → NumberList → ℕ → ℕ → Place
 count_checked p list width n = stop_if p (count_bad width n) (ListLength list n)
 
 -- 16: the end passes the output's length n

@@ -1,11 +1,10 @@
-// The checks that calls share, each a step of a run, and what calls answer.
+// The checks that calls share: each answers the refusal where it is not passed.
 ghost use Rattle.std.specs.Prelude.{◌≡◌, ◌+◌, ◌^◌, ◌≤◌, ◌<◌};
-ghost use Rattle.core_checks.specs.Answered.{Lets};
+ghost use Rattle.core_checks.specs.Answered.{Lets, LetsAt};
 ghost use Rattle.core_checks.specs.Checks.{length_checked, body_checked, section_checked, body_start, section_start, list_checked, count_checked, end_checked, reach_checked};
 
-use core_read::cursor;
 use core_read::cursor::{Cursor, Place};
-use core_read::error::Refusal;
+use core_read::error::{NumberList, Refusal};
 
 // 1: a buffer, or a label to write, that is too long.
 #[tactic(auto, unfolding(crate::specs::Checks::length_checked, core_read::specs::Taken::stop_if))]
@@ -40,7 +39,7 @@ pub fn section_checked(length: usize, place: usize) -> Result<(), Refusal>
     Ok(())
 }
 
-// 1 and 2 of a body call.
+// 1 and 2 of a body call. A place has no type of its own: one with what check 2 tells of it, 8 ≤ place < 2^32, would ask more of the functions that need but one of the two.
 #[tactic(auto, unfolding(crate::specs::Checks::body_start, crate::specs::Checks::body_checked, core_read::specs::Taken::stop_if))]
 pub fn body_start(length: usize, place: usize) -> Place
     ensures { result ≡ body_start length place }
@@ -61,15 +60,19 @@ pub fn section_start(length: usize, place: usize) -> Place
 }
 
 // 3: a lent list that is short.
-pub fn list_checked(p: Place, list: usize, need: usize, length: usize) -> Place
-    ensures { result ≡ list_checked p list need length }
+#[tactic(auto, unfolding(crate::specs::Checks::list_checked, core_read::specs::Taken::stop_if))]
+pub fn list_checked(list: NumberList, need: usize, length: usize) -> Result<(), Refusal>
+    ensures { Lets result (λ p. list_checked p list need length) }
 {
-    cursor::stop_if(p, length < need, Refusal::ShortList { list, need })
+    if length < need {
+        return Err(Refusal::ShortList { list, need });
+    }
+    Ok(())
 }
 
 // 11: a list to write that is not width times n numbers, n at most 255.
 #[tactic(auto, unfolding(crate::specs::Checks::count_checked, crate::specs::Checks::count_bad, core_read::specs::Taken::stop_if))]
-pub fn count_checked(list: usize, width: usize, length: usize) -> Result<(), Refusal>
+pub fn count_checked(list: NumberList, width: usize, length: usize) -> Result<(), Refusal>
     requires { (0 < width) × (width ≤ 8) }
     ensures { Lets result (λ p. count_checked p list width length) }
 {
@@ -93,21 +96,15 @@ pub fn end_checked(place: usize, width: usize, length: usize) -> Result<(), Refu
 }
 
 // 19: a body that looked past its section.
-pub fn reach_checked(p: Place, extent: Option<usize>) -> Place
-    ensures { result ≡ reach_checked p extent }
+#[tactic(auto, unfolding(crate::specs::Checks::reach_checked, core_read::specs::Taken::stop_if))]
+pub fn reach_checked(c: Cursor, extent: Option<usize>) -> Result<(), Refusal>
+    ensures { LetsAt result c (λ p. reach_checked p extent) }
 {
-    match p {
-        Ok(c) => match extent {
-            Some(end) => cursor::stop_if(
-                Ok(c),
-                end < c.reach,
-                Refusal::PastSection {
-                    reach: c.reach,
-                    end,
-                },
-            ),
-            None => Ok(c),
-        },
-        Err(why) => Err(why),
+    if let Some(end) = extent {
+        let reach = c.reach;
+        if end < reach {
+            return Err(Refusal::PastSection { reach, end });
+        }
     }
+    Ok(())
 }

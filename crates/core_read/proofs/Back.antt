@@ -6,12 +6,12 @@ use mathlib.Core.Bool.{Bool, true, false, cond}
 use mathlib.Core.List.{List, [], ◌∷◌, ◌++◌, append_assoc, append-nil}
 use lib.ListN.{length, take, drop, replicate, length-append, length-replicate}
 use lib.Seq.{take_at, drop_at, take-append_seam}
-use lib.Dec.{eqb, lit≤}
+use lib.Dec.{eqb}
 use borrow.Author.Tests.{le-leb, lt-ltb}
 use native.Mathlib.Nat.{add_assoc, mul-suc, mul-zero}
 use Rattle.core_read.specs.Bytes.{spelled, bytes_of, bytes_of_all, part, number_at, fixed}
 use Rattle.core_read.specs.Taken.{advanced, number_taken, string_taken, label_taken, up_to_nul, has_zero, string_of, fixed_string_taken}
-use Rattle.core_read.specs.declared.cursor.Taken.{Taken}
+use Rattle.core_read.specs.Taken.{Taken}
 use Rattle.core_read.specs.Lists.{numbers_taken}
 use Rattle.core_read.specs.declared.cursor.Cursor.{Cursor}
 use Rattle.core_read.specs.declared.cursor.ByteOrder.{ByteOrder}

@@ -9,3 +9,4 @@ pub mod Strings
 pub mod Lists
 pub mod Back
 pub mod Here
+pub mod Steps

@@ -1,15 +1,16 @@
 -- Runs of numbers, for every width together.
 use mathlib.Core.Path.{◌≡◌, refl, sym, ap, ◌∙◌}
 use mathlib.Core.List.{List, [], ◌∷◌, ◌++◌, append_assoc}
-use Prim.Native.Nat.{ℕ, zero, suc, ◌+◌, ◌*◌, ◌≤◌, ◌<◌}
+use Prim.Native.Nat.{ℕ, zero, suc, ◌+◌, ◌-◌, ◌*◌, ◌/◌, ◌≤◌, ◌<◌}
 use native.Mathlib.Nat.{mul-suc, mul-zero}
 use native.Mathlib.Numerals.{add-one}
 use native.Mathlib.Omega.{arith}
+use Rattle.std.proofs.Math.Nat.{mul-div-le, le-div_iff_mul-le, lt-div-mul-add, mul_comm}
 use lib.ListN.{length, drop, get_or, set, length-set}
 use lib.Seq.{set_at, drop-cons}
 use Rattle.core_read.specs.Bytes.{number_at}
 use Rattle.core_read.specs.Taken.{advanced, number_taken, Place}
-use Rattle.core_read.specs.declared.cursor.Taken.{Taken}
+use Rattle.core_read.specs.Taken.{Taken}
 use Rattle.core_read.specs.Lists.{numbers_taken, numbers_at}
 use Rattle.core_read.specs.declared.error.Refusal.{Refusal}
 use Rattle.core_read.specs.declared.error.Refusal.TheVariants.{UnexpectedEof}
@@ -63,6 +64,22 @@ module _ (order : ByteOrder) (w : ℕ) (s : List ℕ) where
   unfolding numbers_taken
   numbers_beyond zero c l g = absurd (omega arith)
   numbers_beyond (suc n) c l g = rw (numbers_taken, number_short c g) (numbers_stay n (UnexpectedEof c.pos w))
+
+-- ---- how many whole numbers of w bytes there are from a place to the end of the bytes, as the code counts them
+
+module _ (at l w : ℕ) (z : 0 < w) (h : at < l) where
+  pub fits : (n : ℕ) → n ≤ (l - at) / w → at + w * n ≤ l
+  fits n e =
+      let m : n * w ≤ l - at = (le-div_iff_mul-le z).0 e in
+      omega (arith, m, mul_comm w n)
+
+  pub whole_fits : at + w * ((l - at) / w) ≤ l
+  whole_fits = omega (arith, mul-div-le (l - at) w)
+
+  pub whole_lacks : l < at + w * ((l - at) / w) + w
+  whole_lacks =
+      let m : l - at < (l - at) / w * w + w = lt-div-mul-add z in
+      omega (arith, m, mul_comm w ((l - at) / w))
 
 -- ---- where a run stands after n numbers, as the code finds it
 

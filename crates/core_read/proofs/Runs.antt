@@ -9,7 +9,7 @@ use native.Mathlib.Nat.{le_of_lt, zero-min, min-zero, suc-min-suc}
 use lib.ListN.{length, take, drop, length-take, length-drop}
 use Rattle.core_read.specs.Bytes.{part, number_at}
 use Rattle.core_read.specs.Taken.{advanced, moved, stop_if, sought, number_taken, string_taken, up_to_nul, over, as_count, Place}
-use Rattle.core_read.specs.declared.cursor.Taken.{Taken}
+use Rattle.core_read.specs.Taken.{Taken}
 use Rattle.core_read.specs.declared.error.Refusal.{Refusal}
 use Rattle.core_read.specs.declared.error.Refusal.TheVariants.{UnexpectedEof}
 use Rattle.core_read.specs.declared.cursor.ByteOrder.{ByteOrder}
@@ -18,19 +18,6 @@ use Rattle.core_read.proofs.Cursors.{moved_here}
 use Rattle.std.specs.Prelude.{Err, Ok}
 
 -- ---- checks
-
-module _ (p : Place) (bad : Bool) (why : Refusal) where
-  pub stop_here : (c : Cursor) → p ≡ Ok c → bad ≡ true → Err why ≡ stop_if p bad why
-  unfolding stop_if
-  stop_here c e f = rw (e, f)
-
-  pub stop_not : (c : Cursor) → p ≡ Ok c → bad ≡ false → Ok c ≡ stop_if p bad why
-  unfolding stop_if
-  stop_not c e f = rw (e, f)
-
-  pub stop_stays : (first : Refusal) → p ≡ Err first → Err first ≡ stop_if p bad why
-  unfolding stop_if
-  stop_stays first e = rw e
 
 -- what a check that was passed tells
 pub cleared : (p : Place) (bad : Bool) (why : Refusal) (c : Cursor) → stop_if p bad why ≡ Ok c → (p ≡ Ok c) × (bad ≡ false)
@@ -108,7 +95,7 @@ module _ (w : ℕ) (s : List ℕ) (at end : ℕ) (h : at ≤ length s) (e : end 
   whole = take_both (end - at) w (drop at s) (simp length-drop (omega (arith, h, e)))
 
 -- a count, a place and a list as a read of a fixed string leaves them
-abbrev Read : ℕ → List ℕ → Place → List ℕ → ℕ → Place → List ℕ → Type 0
+abbrev pub Read : ℕ → List ℕ → Place → List ℕ → ℕ → Place → List ℕ → Type 0
 Read w s p old count then out =
     (◌≡◌ {A = Taken ℕ} (record { value = count; then = then }) (as_count (string_taken w s p))) × (out ≡ over (string_taken w s p).value old)
 
@@ -126,7 +113,3 @@ module _ (w : ℕ) (s : List ℕ) (p : Place) (old : List ℕ) where
   pub string_short : (c : Cursor) → p ≡ Ok c → length s ≤ c.pos → Read w s p old 0 (Err (UnexpectedEof c.pos w)) old
   unfolding string_taken
   string_short c here h = rw (here, le-ltb c.pos (length s) h) (refl, refl)
-
-  pub string_stays : (why : Refusal) → p ≡ Err why → Read w s p old 0 (Err why) old
-  unfolding string_taken
-  string_stays why here = rw here (refl, refl)

@@ -7,7 +7,7 @@ use borrow.Author.Tests.{lt-ltb, le-ltb}
 use lib.Seq.{take_all}
 use lib.ListN.{length, take, drop, length-drop}
 use Rattle.core_read.specs.Taken.{advanced, up_to_nul, label_taken, as_count, Place}
-use Rattle.core_read.specs.declared.cursor.Taken.{Taken}
+use Rattle.core_read.specs.Taken.{Taken}
 use Rattle.core_read.specs.declared.error.Refusal.{Refusal}
 use Rattle.core_read.specs.declared.error.Refusal.TheVariants.{NoNul}
 use Rattle.core_read.specs.declared.cursor.Cursor.{Cursor}

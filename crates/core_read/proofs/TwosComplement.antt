@@ -1,5 +1,5 @@
 -- A signed number of 16 bits and its bits: what the two conversions compute, and that they are each other's inverse.
-use mathlib.Core.Path.{◌≡◌, refl, ap, ◌∙◌}
+use mathlib.Core.Path.{◌≡◌, refl}
 use mathlib.Core.Bool.{Bool, true, false, cond}
 use Prim.Native.Nat.{ℕ, ◌-◌, ◌<◌, ◌^◌}
 use native.Mathlib.Omega.{arith}
@@ -8,11 +8,8 @@ use borrow.Author.Rules.{sfits_of}
 use lib.IntN.{ℤ, pos, negsuc}
 use lib.Dec.{ltb}
 use mir.Syntax.{w16}
-use mir.Val.{SFits, to_z, of_z}
-use mir.Facts.{to_z-of_z}
+use mir.Val.{SFits}
 use Rattle.core_read.specs.Bytes.{signed_of, bits_of}
-use Rattle.core_read.specs.Taken.{as_i16}
-use Rattle.core_read.specs.declared.cursor.Taken.{Taken}
 
 -- there and back
 pub bits_fit : (x : ℤ) → SFits w16 x → bits_of x < 256 ^ 2
@@ -34,10 +31,3 @@ signed_fits_by v false e h = sfits_of (omega (arith, ltb-false v 32768 e))
 pub signed_fits : (v : ℕ) → v < 65536 → SFits w16 (signed_of v)
 unfolding signed_of
 signed_fits v h = signed_fits_by v (ltb v 32768) refl h
-
--- a signed number that was read, as the code holds it
-pub i16_read : (t : Taken ℕ) (u : Taken ℕ) (x : ℤ) → u ≡ t → x ≡ signed_of u.value → u.value < 65536
-    → ◌≡◌ {A = Taken ℤ} (record { value = to_z w16 (of_z w16 x); then = u.then }) (as_i16 t)
-i16_read t u x e f h =
-    let g : to_z w16 (of_z w16 x) ≡ signed_of u.value = ap (λ (z : ℤ). to_z w16 (of_z w16 z)) f ∙ to_z-of_z (signed_fits u.value h) in
-    rw (g, e)

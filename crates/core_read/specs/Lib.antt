@@ -3,3 +3,4 @@ pub mod Bytes
 pub mod Taken
 pub mod Lists
 pub mod Laws
+pub mod Steps

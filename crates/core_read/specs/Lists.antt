@@ -2,7 +2,7 @@
 use Rattle.std.specs.Prelude.{ℕ, zero, suc, ◌+◌, List, [], ◌∷◌}
 use Rattle.core_read.specs.Bytes.{number_at}
 use Rattle.core_read.specs.Taken.{number_taken, Place}
-use Rattle.core_read.specs.declared.cursor.Taken.{Taken}
+use Rattle.core_read.specs.Taken.{Taken}
 use Rattle.core_read.specs.declared.cursor.ByteOrder.{ByteOrder}
 
 -- n numbers of a width, one read after the other

@@ -1,5 +1,9 @@
 -- The number and figures of each refusal: document 01's in the order of its table, then those that document 02 adds. A figure that is not named there is 0.
 use Rattle.std.specs.Prelude.{ℕ, List}
+use Rattle.core_read.specs.declared.error.NumberList.{NumberList}
+use Rattle.core_read.specs.declared.error.NumberList.TheVariants.{Quads, Units, Lines, Frames}
+use Rattle.core_read.specs.declared.error.CheckedText.{CheckedText}
+use Rattle.core_read.specs.declared.error.CheckedText.TheVariants.{PaneName, UserName, Label}
 use Rattle.core_read.specs.declared.error.Refusal.{Refusal}
 use Rattle.core_read.specs.declared.error.Refusal.TheVariants.{TooLong, BadPlace, ShortList, UnexpectedEof, NoNul, PerCharacter, IllFormedUtf8, SectionSize, BadName, Reserve0, ListLength, BadFlip, TextLength, IllFormedUtf16, NoLineBit, OutputEnd, PastSection}
 
@@ -22,18 +26,30 @@ number_of NoLineBit = 15
 number_of (OutputEnd end length) = 16
 number_of (PastSection reach end) = 19
 
+-- lists and texts are told by numbers
+abbrev pub list_number : NumberList → ℕ
+list_number Quads = 1
+list_number Units = 2
+list_number Lines = 3
+list_number Frames = 4
+
+abbrev pub text_number : CheckedText → ℕ
+text_number PaneName = 1
+text_number UserName = 2
+text_number Label = 3
+
 abbrev pub figure_a : Refusal → ℕ
 figure_a (TooLong length) = length
 figure_a (BadPlace place) = place
-figure_a (ShortList list need) = list
+figure_a (ShortList list need) = list_number list
 figure_a (UnexpectedEof offset requested) = offset
 figure_a (NoNul place) = place
 figure_a (PerCharacter value) = value
 figure_a (IllFormedUtf8 place which) = place
 figure_a (SectionSize place size) = place
-figure_a (BadName which) = which
+figure_a (BadName which) = text_number which
 figure_a (Reserve0 value) = value
-figure_a (ListLength list length) = list
+figure_a (ListLength list length) = list_number list
 figure_a (BadFlip frame flip) = frame
 figure_a (TextLength units text) = units
 figure_a (IllFormedUtf16 units) = units
@@ -48,7 +64,7 @@ figure_b (ShortList list need) = need
 figure_b (UnexpectedEof offset requested) = requested
 figure_b (NoNul place) = 0
 figure_b (PerCharacter value) = 0
-figure_b (IllFormedUtf8 place which) = which
+figure_b (IllFormedUtf8 place which) = text_number which
 figure_b (SectionSize place size) = size
 figure_b (BadName which) = 0
 figure_b (Reserve0 value) = 0

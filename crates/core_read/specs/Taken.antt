@@ -6,7 +6,6 @@ use Rattle.core_read.specs.declared.error.Refusal.TheVariants.{UnexpectedEof, No
 use Rattle.core_read.specs.declared.cursor.ByteOrder.{ByteOrder}
 use Rattle.core_read.specs.declared.cursor.Cursor.{Cursor}
 use Rattle.core_read.specs.declared.text.FixedString.{FixedString}
-use Rattle.core_read.specs.declared.cursor.Taken.{Taken}
 
 -- where a run of steps stands: at a cursor, or refused; a refused run does nothing more
 abbrev pub Place : Type 0
@@ -24,6 +23,11 @@ advanced c width = cond (eqb width 0) c (record { pos = c.pos + width; reach = m
 unfoldable pub moved : Cursor → ℕ → Cursor
 moved c to = record { pos = to; reach = c.reach }
 
+-- its cursor, which is of no meaning where it was refused
+abbrev pub cursor_of : Place → Cursor
+cursor_of (Ok c) = c
+cursor_of (Err why) = start 0
+
 -- ---- steps that read nothing
 
 -- a check: the same place, or the refusal where it is bad
@@ -36,7 +40,11 @@ unfoldable pub sought : List ℕ → Place → ℕ → Place
 sought s (Ok c) to = cond (leb to (length s)) (Ok (moved c to)) (Err (UnexpectedEof (length s) (to - length s)))
 sought s (Err first) to = Err first
 
--- ---- reads: what was read, and where the run stands then; `Taken A` is the code's
+-- ---- reads: what was read, and where the run stands then
+
+pub record Taken (A : Type 0) : Type 0 where
+  pub value : A
+  pub then : Place
 
 -- a number of width bytes; 4 with the place and the width where fewer are left
 unfoldable pub number_taken : ByteOrder → ℕ → List ℕ → Place → Taken ℕ

@@ -1,20 +1,37 @@
 // Why a call is refused: the rows of document 01's table and those that document 02 adds, each with its figures.
 ghost use Rattle.std.specs.Prelude.{◌≡◌};
-ghost use Rattle.core_read.specs.Refusals.{number_of, figure_a, figure_b};
+ghost use Rattle.core_read.specs.Refusals.{number_of, list_number, text_number, figure_a, figure_b};
+
+// A list of numbers that a read fills, or that a write is handed.
+#[derive(Clone, Copy)]
+pub enum NumberList {
+    Quads,
+    Units,
+    Lines,
+    Frames,
+}
+
+// A text that has to be well-formed.
+#[derive(Clone, Copy)]
+pub enum CheckedText {
+    PaneName,
+    UserName,
+    Label,
+}
 
 #[derive(Clone, Copy)]
 pub enum Refusal {
     TooLong { length: usize },
     BadPlace { place: usize },
-    ShortList { list: usize, need: usize },
+    ShortList { list: NumberList, need: usize },
     UnexpectedEof { offset: usize, requested: usize },
     NoNul { place: usize },
     PerCharacter { value: usize },
-    IllFormedUtf8 { place: usize, which: usize },
+    IllFormedUtf8 { place: usize, which: CheckedText },
     SectionSize { place: usize, size: usize },
-    BadName { which: usize },
+    BadName { which: CheckedText },
     Reserve0 { value: usize },
-    ListLength { list: usize, length: usize },
+    ListLength { list: NumberList, length: usize },
     BadFlip { frame: usize, flip: usize },
     TextLength { units: usize, text_length: usize },
     IllFormedUtf16 { units: usize },
@@ -23,8 +40,33 @@ pub enum Refusal {
     PastSection { reach: usize, end: usize },
 }
 
+impl From<NumberList> for usize {
+    ghost from_gives = { λ list n. n ≡ list_number list };
+
+    fn from(list: NumberList) -> usize {
+        match list {
+            NumberList::Quads => 1,
+            NumberList::Units => 2,
+            NumberList::Lines => 3,
+            NumberList::Frames => 4,
+        }
+    }
+}
+
+impl From<CheckedText> for usize {
+    ghost from_gives = { λ text n. n ≡ text_number text };
+
+    fn from(text: CheckedText) -> usize {
+        match text {
+            CheckedText::PaneName => 1,
+            CheckedText::UserName => 2,
+            CheckedText::Label => 3,
+        }
+    }
+}
+
 impl Refusal {
-    // Document 01's number, or document 02's.
+    // Document 01's number, or document 02's. No derive gives it: the cases have figures, and 17 and 18 are none of them.
     pub fn number(self) -> usize
         ensures { result ≡ number_of self }
     {
@@ -62,7 +104,7 @@ impl Refusal {
         match self {
             Refusal::TooLong { length } => length,
             Refusal::BadPlace { place } => place,
-            Refusal::ShortList { list, need: _ } => list,
+            Refusal::ShortList { list, need: _ } => list.into(),
             Refusal::UnexpectedEof {
                 offset,
                 requested: _,
@@ -71,9 +113,9 @@ impl Refusal {
             Refusal::PerCharacter { value } => value,
             Refusal::IllFormedUtf8 { place, which: _ } => place,
             Refusal::SectionSize { place, size: _ } => place,
-            Refusal::BadName { which } => which,
+            Refusal::BadName { which } => which.into(),
             Refusal::Reserve0 { value } => value,
-            Refusal::ListLength { list, length: _ } => list,
+            Refusal::ListLength { list, length: _ } => list.into(),
             Refusal::BadFlip { frame, flip: _ } => frame,
             Refusal::TextLength {
                 units,
@@ -100,7 +142,7 @@ impl Refusal {
             } => requested,
             Refusal::NoNul { place: _ } => 0,
             Refusal::PerCharacter { value: _ } => 0,
-            Refusal::IllFormedUtf8 { place: _, which } => which,
+            Refusal::IllFormedUtf8 { place: _, which } => which.into(),
             Refusal::SectionSize { place: _, size } => size,
             Refusal::BadName { which: _ } => 0,
             Refusal::Reserve0 { value: _ } => 0,

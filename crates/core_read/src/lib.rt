@@ -3,7 +3,7 @@
 
 pub mod cursor;
 pub mod error;
-pub mod list;
 pub mod number;
+pub mod reader;
 pub mod signed;
 pub mod text;

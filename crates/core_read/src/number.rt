@@ -1,6 +1,7 @@
 // Numbers of a fixed width, as their bytes in an order.
 ghost use Rattle.std.specs.Prelude.{◌≡◌, ℕ, ◌^◌, ◌<◌, refl, length};
 ghost use Rattle.core_read.specs.Bytes.{spelled, bytes_of, signed_of, bits_of};
+ghost use Rattle.std.proofs.Common.{lit<};
 ghost use Rattle.core_read.specs.Laws.{bits_signed};
 
 use crate::cursor::ByteOrder;
@@ -10,6 +11,8 @@ pub trait Number: Copy {
     const WIDTH: usize;
 
     ghost WIDTH: { ℕ };
+
+    ghost some_bytes: { 0 < WIDTH };
 
     // The number that its bytes spell, and the number of this type whose bytes spell another.
     ghost bits: { Self → ℕ };
@@ -33,6 +36,8 @@ impl Number for u8 {
 
     ghost WIDTH = { 1 };
 
+    ghost some_bytes = { lit< tt };
+
     ghost bits = { λ n. n };
 
     ghost of_bits = { λ n. n };
@@ -52,6 +57,8 @@ impl Number for u16 {
     const WIDTH: usize = 2;
 
     ghost WIDTH = { 2 };
+
+    ghost some_bytes = { lit< tt };
 
     ghost bits = { λ n. n };
 
@@ -80,6 +87,8 @@ impl Number for u32 {
 
     ghost WIDTH = { 4 };
 
+    ghost some_bytes = { lit< tt };
+
     ghost bits = { λ n. n };
 
     ghost of_bits = { λ n. n };
@@ -106,6 +115,8 @@ impl Number for i16 {
     const WIDTH: usize = 2;
 
     ghost WIDTH = { 2 };
+
+    ghost some_bytes = { lit< tt };
 
     ghost bits = { bits_of };
 

@@ -1,2 +1,4 @@
 pub mod Padding
 pub mod Puts
+pub mod Chain
+pub mod Texts

@@ -46,10 +46,6 @@ take_more s i h = rw (add-one, take-suc s i 0)
 pub put_as : {o o₁ : List ℕ} {p q v w : ℕ} {a b : List ℕ} → v ≡ w → a ≡ b → Put o p v a q o₁ → Put o p w b q o₁
 put_as e f h = rw (← e, ← f) h
 
--- the same, with the place written in another way
-pub put_at : {o o₁ : List ℕ} {p q r w : ℕ} {e : List ℕ} → p ≡ q → Put o p w e r o₁ → Put o q w e r o₁
-put_at h k = rw (← h) k
-
 pub all_append : (order : ByteOrder) (w : ℕ) (a b : List ℕ) → bytes_of_all order w (a ++ b) ≡ bytes_of_all order w a ++ bytes_of_all order w b
 unfolding bytes_of_all
 all_append order w [] b = refl

@@ -5,12 +5,12 @@ use Prim.Native.Nat.{ℕ, ◌+◌, ◌-◌, ◌≤◌, ◌<◌}
 use native.Mathlib.Numerals.{add-one}
 use native.Mathlib.Omega.{arith}
 use mathlib.Core.List.{List, [], ◌∷◌}
-use lib.ListN.{length, drop, get_or, drop_of_length-le, length-drop}
+use lib.ListN.{length, drop, get_or, drop_of_length-le}
 use lib.Seq.{drop-cons}
 use lib.Dec.{eqb, leb, ltb}
-use borrow.Author.Tests.{eq-eqb, ne_eqb, leb-true}
+use borrow.Author.Tests.{eq-eqb, ne_eqb, leb-true, ltb-true, lt-ltb, le-ltb}
 use Rattle.std.specs.Prelude.{Option, Some, None}
-use Rattle.digits.specs.Digits.{value_of, line_after, bytes_after, before_feed, line_after_all, bytes_after_all, fed}
+use Rattle.digits.specs.Digits.{value_of, line_after, bytes_after, before_feed, line_after_all, bytes_after_all, feed_place, fed}
 use Rattle.digits.specs.declared.Fed.{Fed}
 use Rattle.digits.specs.declared.Line.{Line}
 
@@ -53,34 +53,53 @@ unfolding before_feed
 left_short [] = omega arith
 left_short (b ∷ t) = short_by (eqb b 10) b (before_feed t) t (left_short t)
 
-pub fed_within : (t : List ℕ) (at : ℕ) (l : Line) → at ≤ length t → (fed t at l).at ≤ length t
-unfolding fed
-fed_within t at l h = omega (arith, left_short (drop at t), length-drop at t)
+some_by : (t : Bool) (n k : ℕ) → cond t (Some n) None ≡ Some k → (t ≡ true) × (n ≡ k)
+some_by true n k e = (refl, cc)
+some_by false n k e = cc
 
--- the line l and the bytes s at i, with what is left of the text, come to what the whole text comes to from `at` on
-pub record Going (t : List ℕ) (at : ℕ) (line : Line) (s₀ : List ℕ) (i : ℕ) (l : Line) (s : List ℕ) : Type 0 where
-  pub lines : line_after_all l (before_feed (drop i t)) ≡ line_after_all line (before_feed (drop at t))
-  pub bytes : bytes_after_all s l (before_feed (drop i t)) ≡ bytes_after_all s₀ line (before_feed (drop at t))
-  pub place : i + length (before_feed (drop i t)) ≡ at + length (before_feed (drop at t))
+-- a line feed stands within the text
+pub fed_within : (t : List ℕ) (l : Line) (k : ℕ) → (fed t l).feed ≡ Some k → k < length t
+unfolding fed feed_place
+fed_within t l k e =
+    let f = some_by (ltb (length (before_feed t)) (length t)) (length (before_feed t)) k e in
+    let within = ltb-true (length (before_feed t)) (length t) f.0 in
+    omega (arith, f.1)
 
-pub going_on : (t : List ℕ) (at : ℕ) (line : Line) (s₀ : List ℕ) (i : ℕ) (l : Line) (s : List ℕ) → i < length t → (get_or t i 0 ≡ 10 → ⊥)
-    → Going t at line s₀ i l s
-    → Going t at line s₀ (i + 1) (line_after l (get_or t i 0)) (bytes_after s l (get_or t i 0))
+-- the line l and the bytes s at i, with what is left of the text, come to what the whole text comes to
+pub record Going (t : List ℕ) (line : Line) (s₀ : List ℕ) (i : ℕ) (l : Line) (s : List ℕ) : Type 0 where
+  pub lines : line_after_all l (before_feed (drop i t)) ≡ line_after_all line (before_feed t)
+  pub bytes : bytes_after_all s l (before_feed (drop i t)) ≡ bytes_after_all s₀ line (before_feed t)
+  pub place : i + length (before_feed (drop i t)) ≡ length (before_feed t)
+
+pub going_on : (t : List ℕ) (line : Line) (s₀ : List ℕ) (i : ℕ) (l : Line) (s : List ℕ) → i < length t → (get_or t i 0 ≡ 10 → ⊥)
+    → Going t line s₀ i l s
+    → Going t line s₀ (i + 1) (line_after l (get_or t i 0)) (bytes_after s l (get_or t i 0))
 unfolding line_after_all bytes_after_all
-going_on t at line s₀ i l s h e g =
+going_on t line s₀ i l s h e g =
     let m = left_more t i h e in
     record {
       lines = sym (ap (line_after_all l) m) ∙ g.lines;
       bytes = sym (ap (bytes_after_all s l) m) ∙ g.bytes;
-      place = omega (arith, ap length m);
+      place = omega (arith, ap length m, g.place);
     }
 
--- where nothing is left
-pub going_end : (t : List ℕ) (at : ℕ) (line : Line) (s₀ : List ℕ) (i : ℕ) (l : Line) (s : List ℕ) → before_feed (drop i t) ≡ []
-    → Going t at line s₀ i l s
-    → (◌≡◌ {A = Fed} (record { line = l; at = i }) (fed t at line)) × (s ≡ bytes_after_all s₀ line (before_feed (drop at t)))
-unfolding line_after_all bytes_after_all fed
-going_end t at line s₀ i l s e g =
-    let lines : l ≡ line_after_all line (before_feed (drop at t)) = sym (ap (line_after_all l) e) ∙ g.lines in
-    let place : i ≡ at + length (before_feed (drop at t)) = omega (arith, ap length e) in
-    (cc, sym (ap (bytes_after_all s l) e) ∙ g.bytes)
+-- where nothing is left: the line feed stands here, or there is none
+module _ (t : List ℕ) (line : Line) (s₀ : List ℕ) (i : ℕ) (l : Line) (s : List ℕ) (e : before_feed (drop i t) ≡ []) (g : Going t line s₀ i l s) where
+  stands : i ≡ length (before_feed t)
+  stands = omega (arith, ap length e, g.place)
+
+  pub bytes_end : s ≡ bytes_after_all s₀ line (before_feed t)
+  unfolding bytes_after_all
+  bytes_end = sym (ap (bytes_after_all s l) e) ∙ g.bytes
+
+  lines_end : l ≡ line_after_all line (before_feed t)
+  unfolding line_after_all
+  lines_end = sym (ap (line_after_all l) e) ∙ g.lines
+
+  pub fed_here : i < length t → ◌≡◌ {A = Fed} (record { line = l; feed = Some i }) (fed t line)
+  unfolding fed feed_place
+  fed_here h = rw (← lines_end, ← stands, lt-ltb i (length t) h) refl
+
+  pub fed_nowhere : length t ≤ i → ◌≡◌ {A = Fed} (record { line = l; feed = None }) (fed t line)
+  unfolding fed feed_place
+  fed_nowhere h = rw (← lines_end, ← stands, le-ltb i (length t) h) refl

@@ -1,5 +1,5 @@
 -- A line of hexadecimal digits, taken a byte at a time.
-use Rattle.std.specs.Prelude.{ℕ, ◌+◌, ◌-◌, ◌*◌, ◌/◌, ◌%◌, Bool, true, false, not, cond, ◌&&◌, ◌||◌, Option, Some, None, is_some, List, [], ◌∷◌, length, get_or, set, drop, ltb, leb, eqb}
+use Rattle.std.specs.Prelude.{ℕ, ◌+◌, ◌-◌, ◌*◌, ◌/◌, ◌%◌, Bool, true, false, not, cond, ◌&&◌, ◌||◌, Option, Some, None, is_some, List, [], ◌∷◌, length, get_or, set, ltb, leb, eqb}
 use Rattle.std.specs.Option.{option_map_or}
 use Rattle.digits.specs.declared.Fed.{Fed}
 use Rattle.digits.specs.declared.Line.{Line}
@@ -52,6 +52,10 @@ unfoldable pub bytes_after_all : List ℕ → Line → List ℕ → List ℕ
 bytes_after_all s l [] = s
 bytes_after_all s l (b ∷ t) = bytes_after_all (bytes_after s l b) (line_after l b) t
 
--- the bytes from a place on up to a line feed: the line after them, and the place of the line feed, or the end
-unfoldable pub fed : List ℕ → ℕ → Line → Fed
-fed text at l = record { line = line_after_all l (before_feed (drop at text)); at = at + length (before_feed (drop at text)) }
+-- the place of the first line feed, if there is one
+unfoldable pub feed_place : List ℕ → Option ℕ
+feed_place text = cond (ltb (length (before_feed text)) (length text)) (Some (length (before_feed text))) None
+
+-- the bytes up to a line feed: the line after them, and the place of the line feed, if there is one
+unfoldable pub fed : List ℕ → Line → Fed
+fed text l = record { line = line_after_all l (before_feed text); feed = feed_place text }

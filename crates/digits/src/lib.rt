@@ -1,24 +1,25 @@
-// A line of hexadecimal digits, taken a byte at a time into lent bytes.
+// A line of hexadecimal digits, taken a byte at a time into lent bytes. The kit's `hex` takes a whole text, and a line comes in chunks.
 #![tactic(auto)]
 
-ghost use Rattle.std.specs.Prelude.{◌≡◌, ◌+◌, ◌*◌, ◌/◌, ◌<◌, drop};
+ghost use Rattle.std.specs.Prelude.{◌≡◌, ◌+◌, ◌*◌, ◌/◌, ◌<◌};
 ghost use Rattle.digits.specs.Digits.{value_of, blank_line, bad_line, has_begun, half_put, line_after, bytes_after, even_line, before_feed, bytes_after_all, fed};
 
 // The most digits of a line.
 pub const MOST: usize = 8192;
 
-// The line so far: how many digits it has, and whether it is bad. A bad line counts the digits after its fault too.
+// The line so far: how many digits it has, and whether it is bad. A bad line counts the digits after its fault too, and they still go into the lent bytes,
+// so the count stands beside the flag and not in a case of an enum.
 #[derive(Clone, Copy)]
 pub struct Line {
     pub digits: usize,
     pub bad: bool,
 }
 
-// The line after bytes up to a line feed, and the line feed's place, or the end where there is none.
+// The line after bytes up to a line feed, and the line feed's place, if there is one.
 #[derive(Clone, Copy)]
 pub struct Fed {
     pub line: Line,
-    pub at: usize,
+    pub feed: Option<usize>,
 }
 
 pub fn blank_line() -> Line
@@ -99,22 +100,24 @@ pub fn digit(bytes: &mut [u8], line: Line, b: u8) -> Line
     }
 }
 
-// The bytes of a text from a place on, up to a line feed.
-pub fn feed(text: &[u8], at: usize, bytes: &mut [u8], line: Line) -> Fed
-    ensures value { result ≡ fed text.now at line }
-    ensures bytes_after { bytes.new ≡ bytes_after_all bytes.old line (before_feed (drop at text.now)) }
+// The bytes of a text up to a line feed.
+pub fn feed(text: &[u8], bytes: &mut [u8], line: Line) -> Fed
+    ensures value { result ≡ fed text.now line }
+    ensures bytes_after { bytes.new ≡ bytes_after_all bytes.old line (before_feed text.now) }
 {
     let mut l = line;
-    for i in at..text.len() {
-        let b = text[i];
-        if b == b'\n' {
-            return Fed { line: l, at: i };
+    for (i, b) in text.iter().enumerate() {
+        if *b == b'\n' {
+            return Fed {
+                line: l,
+                feed: Some(i),
+            };
         }
-        l = digit(bytes, l, b);
+        l = digit(bytes, l, *b);
     }
     Fed {
         line: l,
-        at: at.max(text.len()),
+        feed: None,
     }
 }
 

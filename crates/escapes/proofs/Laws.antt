@@ -1,5 +1,5 @@
 -- No byte of what is shown ends the line, and none ends the quotes around it.
-use mathlib.Core.Path.{◌≡◌, refl, sym}
+use mathlib.Core.Path.{◌≡◌, refl}
 use mathlib.Core.Logic.{◌⊎◌, inl, inr}
 use mathlib.Core.Bool.{Bool, true, false, cond, ◌||◌}
 use Prim.Native.Nat.{ℕ, zero, suc, ◌+◌, ◌*◌, ◌/◌, ◌%◌, ◌≤◌, ◌<◌}
@@ -9,8 +9,9 @@ use mathlib.Core.List.{List, [], ◌∷◌, ◌++◌, append_assoc}
 use lib.ListN.{length, get_or, length-append}
 use lib.Dec.{ltb, leb, eqb}
 use borrow.Author.Tests.{ltb-true, le-ltb, ne_eqb}
-use Rattle.core_read.specs.Bytes.{Put}
-use Rattle.core_write.proofs.Puts.{◌then◌, put_as}
+use Rattle.core_write.specs.Puts.{PutsText}
+use Rattle.core_write.specs.declared.writer.Writer.{Writer}
+use Rattle.core_write.proofs.Texts.{◌then◌}
 use Rattle.escapes.specs.Escaped.{control, hidden, hex_digit, written_out, shown, escaped_up_to, escaped, has_control, before_quote}
 
 -- ---- tests
@@ -84,11 +85,9 @@ unfolding escaped_up_to
 up_to_more ascii s i = rw add-one
 
 -- the bytes so far and one more, put one after the other
-pub put_more : {o o₁ o₂ : List ℕ} {p q r : ℕ} (ascii : Bool) (s : List ℕ) (i : ℕ) (hide : Bool) → hide ≡ cond ascii (leb 0x80 (get_or s i 0)) (hidden s i)
-    → Put o p (length (escaped_up_to ascii s i)) (escaped_up_to ascii s i) q o₁
-    → Put o₁ q (length (shown hide (get_or s i 0))) (shown hide (get_or s i 0)) r o₂
-    → Put o p (length (escaped_up_to ascii s (i + 1))) (escaped_up_to ascii s (i + 1)) r o₂
-put_more ascii s i hide e h k = rw (up_to_more ascii s i, ← e) (put_as (sym (length-append (escaped_up_to ascii s i) (shown hide (get_or s i 0)))) refl (h then k))
+pub puts_more : {a b c : Writer} (ascii : Bool) (s : List ℕ) (i : ℕ) (hide : Bool) → hide ≡ cond ascii (leb 0x80 (get_or s i 0)) (hidden s i)
+    → PutsText a b (escaped_up_to ascii s i) → PutsText b c (shown hide (get_or s i 0)) → PutsText a c (escaped_up_to ascii s (i + 1))
+puts_more ascii s i hide e h k = rw (up_to_more ascii s i, ← e) (h then k)
 
 -- ---- no control character: the line does not end
 

@@ -3,11 +3,11 @@
 #![tactic(auto)]
 
 ghost use Rattle.std.specs.Prelude.{◌≡◌, ◌+◌, ◌-◌, ◌*◌, ◌<◌, ◌≤◌, cond, leb, length, get_or};
-ghost use Rattle.core_read.specs.Bytes.{Room, Put};
+ghost use Rattle.core_write.specs.Puts.{HasRoom, PutsText};
 ghost use Rattle.escapes.specs.Escaped.{control, hidden_width, hex_digit, hex_digits, written_out, shown, escaped};
 ghost use Rattle.escapes.specs.Escaped.{hidden as Escaped·hidden};
 
-use core_write::writer::put_bytes;
+use core_write::writer::Writer;
 
 // ---- which bytes are written out
 
@@ -62,39 +62,37 @@ fn hex_digit(d: u8) -> u8
 }
 
 // The two digits of a byte, the high half first.
-pub fn put_hex_digits(out: &mut [u8], p: usize, b: u8) -> usize
-    requires { Room out.old p 2 }
-    ensures { Put out.old p 2 (hex_digits b) result out.new }
+pub fn put_hex_digits<'a, 's>(w: &'s mut Writer<'a>, b: u8)
+    requires { HasRoom w.old 2 }
+    ensures { PutsText w.old w.new (hex_digits b) }
 {
     let high = hex_digit(b / 16 % 16);
     let low = hex_digit(b % 16);
     let two = [high, low];
-    put_bytes(out, p, &two)
+    w.put_bytes(&two);
 }
 
 // `\xHH`
-fn put_written_out(out: &mut [u8], p: usize, b: u8) -> usize
-    requires { Room out.old p 4 }
-    ensures { Put out.old p (length (written_out b)) (written_out b) result out.new }
+fn put_written_out<'a, 's>(w: &'s mut Writer<'a>, b: u8)
+    requires { HasRoom w.old 4 }
+    ensures { PutsText w.old w.new (written_out b) }
 {
-    let q = put_bytes(out, p, b"\\x");
-    put_hex_digits(out, q, b)
+    w.put_bytes(b"\\x");
+    put_hex_digits(w, b);
 }
 
-fn put_shown(out: &mut [u8], p: usize, hide: bool, b: u8) -> usize
-    requires { Room out.old p 4 }
-    ensures { Put out.old p (length (shown hide b)) (shown hide b) result out.new }
+fn put_shown<'a, 's>(w: &'s mut Writer<'a>, hide: bool, b: u8)
+    requires { HasRoom w.old 4 }
+    ensures { PutsText w.old w.new (shown hide b) }
 {
     let never = is_control(b);
     if hide | never {
-        return put_written_out(out, p, b);
+        put_written_out(w, b);
+    } else if (b == b'"') | (b == b'\\') {
+        w.put_bytes(&[b'\\', b]);
+    } else {
+        w.put_bytes(&[b]);
     }
-    if (b == b'"') | (b == b'\\') {
-        let two = [b'\\', b];
-        return put_bytes(out, p, &two);
-    }
-    let one = [b];
-    put_bytes(out, p, &one)
 }
 
 // Whether byte i is written out: with ascii every byte of 0x80 and above.
@@ -105,16 +103,14 @@ fn is_written_out(s: &[u8], i: usize, ascii: bool) -> bool
     if ascii { 0x80 <= s[i] } else { hidden(s, i) }
 }
 
-// Puts the bytes of s as they are shown into out at p, at most four for each, and answers the place after them.
-pub fn put_escaped(out: &mut [u8], p: usize, s: &[u8], ascii: bool) -> usize
-    requires { Room out.old p (4 * length s.now) }
-    ensures put { Put out.old p (length (escaped ascii s.now)) (escaped ascii s.now) result out.new }
-    ensures upper_bound { result ≤ p + 4 * length s.now }
+// Puts the bytes of s as they are shown, at most four for each.
+pub fn put_escaped<'a, 's>(w: &'s mut Writer<'a>, s: &[u8], ascii: bool)
+    requires { HasRoom w.old (4 * length s.now) }
+    ensures put { PutsText w.old w.new (escaped ascii s.now) }
+    ensures upper_bound { w.new.place ≤ w.old.place + 4 * length s.now }
 {
-    let mut q = p;
     for (i, b) in s.iter().enumerate() {
         let write_out = is_written_out(s, i, ascii);
-        q = put_shown(out, q, write_out, *b);
+        put_shown(w, write_out, *b);
     }
-    q
 }

@@ -1,2 +1,1 @@
-mod Outcomes
 pub mod Unread

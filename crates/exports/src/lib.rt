@@ -13,8 +13,10 @@ use exports_answers::answers;
 use exports_parts::{counts, parts};
 use exports_read::reads;
 use flat::layout;
+use strip_records::lists::{Content, Lists};
 
 // The section at a place of data.
+#[tactic(auto, unfolding(crate::specs::Calls::seen_read))]
 #[unsafe(no_mangle)]
 pub extern "C" fn bidlomeqa_read_section(
     order: u64,
@@ -32,11 +34,18 @@ pub extern "C" fn bidlomeqa_read_section(
     if answer.len() < layout::ANSWER_WORDS {
         return layout::SHORT_ANSWER;
     }
-    let x = reads::read_section(order, data, place, quads, units, lines, frames, record);
+    let mut lent = Lists {
+        quads,
+        units,
+        lines,
+        frames,
+    };
+    let x = reads::read_section(order, data, place, &mut lent, record);
     answers::give(answer, answers::section(x))
 }
 
 // The body of a kind at a place of data.
+#[tactic(auto, unfolding(crate::specs::Calls::seen_read))]
 #[unsafe(no_mangle)]
 pub extern "C" fn bidlomeqa_read_body(
     order: u64,
@@ -55,13 +64,18 @@ pub extern "C" fn bidlomeqa_read_body(
     if answer.len() < layout::ANSWER_WORDS {
         return layout::SHORT_ANSWER;
     }
-    let x = reads::read_body(
-        order, kind, data, place, quads, units, lines, frames, record,
-    );
+    let mut lent = Lists {
+        quads,
+        units,
+        lines,
+        frames,
+    };
+    let x = reads::read_body(order, kind, data, place, &mut lent, record);
     answers::give(answer, answers::section(x))
 }
 
 // The section of a record at a place of out.
+#[tactic(auto, unfolding(crate::specs::Calls::seen_write))]
 #[unsafe(no_mangle)]
 pub extern "C" fn bidlomeqa_write_section(
     order: u64,
@@ -80,13 +94,19 @@ pub extern "C" fn bidlomeqa_write_section(
     if answer.len() < layout::ANSWER_WORDS {
         return layout::SHORT_ANSWER;
     }
-    let x = calls::write_section(
-        order, record, quads, units, lines, frames, label, out, place,
-    );
+    let content = Content {
+        quads,
+        units,
+        lines,
+        frames,
+        label,
+    };
+    let x = calls::write_section(order, record, content, out, place);
     answers::give(answer, answers::written(x))
 }
 
 // The body of a record at a place of out.
+#[tactic(auto, unfolding(crate::specs::Calls::seen_write))]
 #[unsafe(no_mangle)]
 pub extern "C" fn bidlomeqa_write_body(
     order: u64,
@@ -105,13 +125,19 @@ pub extern "C" fn bidlomeqa_write_body(
     if answer.len() < layout::ANSWER_WORDS {
         return layout::SHORT_ANSWER;
     }
-    let x = calls::write_body(
-        order, record, quads, units, lines, frames, label, out, place,
-    );
+    let content = Content {
+        quads,
+        units,
+        lines,
+        frames,
+        label,
+    };
+    let x = calls::write_body(order, record, content, out, place);
     answers::give(answer, answers::written(x))
 }
 
 // Where the label of a record stands in data.
+#[tactic(auto, unfolding(crate::specs::Calls::seen_part))]
 #[unsafe(no_mangle)]
 pub extern "C" fn bidlomeqa_label(data: &[u8], record: &[u64], answer: &mut [u64]) -> u64
     ensures { returned result answer.new ≡ label_call «data».now «record».now answer.old }
@@ -124,6 +150,7 @@ pub extern "C" fn bidlomeqa_label(data: &[u8], record: &[u64], answer: &mut [u64
 }
 
 // The label in the strip, or the lent caption.
+#[tactic(auto, unfolding(crate::specs::Calls::seen_part))]
 #[unsafe(no_mangle)]
 pub extern "C" fn bidlomeqa_caption(
     strip: &[u8],
@@ -141,6 +168,7 @@ pub extern "C" fn bidlomeqa_caption(
 }
 
 // How many numbers of each list a record counts: a read of it filled the first so many, and a write of it is to be handed so many.
+#[tactic(auto, unfolding(crate::specs::Calls::filled_call))]
 #[unsafe(no_mangle)]
 pub extern "C" fn bidlomeqa_filled(record: &[u64], filled: &mut [u64]) -> u64
     ensures { returned result filled.new ≡ filled_call «record».now filled.old }

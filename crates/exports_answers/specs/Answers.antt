@@ -1,5 +1,5 @@
 -- What a call answers: the number that it returns, and its answer's words. Numbers are those of layout.rt of flat.
-use Rattle.std.specs.Prelude.{ℕ, cond, List, [], ◌∷◌, eqb, get_or, Option, Some, None, Result, Err, Ok}
+use Rattle.std.specs.Prelude.{◌≡◌, ℕ, cond, List, [], ◌∷◌, eqb, get_or, Option, Some, None, Result, Err, Ok}
 use Rattle.core_read.specs.Bytes.{splice}
 use Rattle.core_read.specs.Refusals.{ByNumber, accepted, refused, refusal_by_number}
 use Rattle.core_read.specs.declared.cursor.ByteOrder.{ByteOrder}
@@ -12,6 +12,8 @@ use Rattle.exports_answers.specs.declared.answers.Answer.{Answer}
 use Rattle.exports_answers.specs.declared.answers.Fault.{Fault}
 use Rattle.exports_answers.specs.declared.answers.Fault.TheVariants as Faults
 use Rattle.exports_answers.specs.declared.answers.Part.{Part}
+use Rattle.exports_answers.specs.declared.answers.PartOf.{PartOf}
+use Rattle.exports_answers.specs.declared.answers.PartOf.TheVariants.{Strip, Caption}
 use Rattle.strip_header.specs.declared.Section.{Section}
 
 abbrev pub answer : ℕ → ℕ → ℕ → ℕ → Answer
@@ -81,6 +83,11 @@ fault_answer (Faults.BadWord index) = bad_word index
 fault_answer (Faults.BadOrder n) = bad_order n
 fault_answer (Faults.Refused why) = refused_answer why
 
+-- an answer of what a call did, by what makes an answer of that; or the fault's
+abbrev pub Told : {A : Type 0} → (A → Answer → Type 0) → Result A Fault → Answer → Type 0
+Told makes (Ok x) a = makes x a
+Told makes (Err f) a = a ≡ fault_answer f
+
 abbrev pub section_told : Result Section Fault → Answer
 section_told (Ok s) = section_answer (Ok s)
 section_told (Err f) = fault_answer f
@@ -89,8 +96,13 @@ abbrev pub written_told : Result ℕ Fault → Answer
 written_told (Ok end) = written_answer (Ok end)
 written_told (Err f) = fault_answer f
 
+-- the number of the bytes that a part is of
+abbrev pub which : PartOf → ℕ
+which Strip = 0
+which Caption = 1
+
 abbrev pub part_told : Result Part Fault → Answer
-part_told (Ok x) = part_answer x.which x.place x.length
+part_told (Ok x) = part_answer (which x.of) x.place x.length
 part_told (Err f) = fault_answer f
 
 -- ---- what the caller sees: the number returned, and the answer's words

@@ -1,6 +1,7 @@
 -- A call of a record's words; the label and the caption of a record's words.
-use Rattle.std.specs.Prelude.{ℕ, cond, List, length, get_or, ltb, eqb, None, Some, Result, Ok, Err}
+use Rattle.std.specs.Prelude.{◌≡◌, ℕ, cond, List, length, get_or, ltb, eqb, None, Some, Result, Ok, Err}
 use Rattle.text_box_caption.specs.Caption.{within}
+use Rattle.flat.specs.declared.words.Words.{Words}
 use Rattle.flat_text_box.specs.TextBox.{label_at}
 use Rattle.flat_records.specs.Below.{Checked, words_checked}
 use Rattle.exports_answers.specs.Answers.{short_record, bad_word, part_answer}
@@ -24,6 +25,11 @@ as_fault (Err b) = Err (Faults.BadWord b.index)
 
 unfoldable pub record_checked : List ℕ → Result (Unit {0}) Fault
 record_checked w = cond (ltb (length w) 116) (Err Faults.ShortRecord) (as_fault (words_checked w))
+
+-- what the code answers of that test: the words that passed
+abbrev pub Passes : Result Words Fault → List ℕ → Type 0
+Passes (Ok r) w = (record_checked w ≡ Ok tt) × (r.words.now ≡ w)
+Passes (Err f) w = record_checked w ≡ Err f
 
 -- ---- the label and the caption
 

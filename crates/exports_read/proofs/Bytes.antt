@@ -8,7 +8,7 @@ use lib.ListN.{length, take, drop, replicate, length-append, length-take, length
 use lib.Dec.{leb, ltb, eqb}
 use Rattle.core_read.specs.Bytes.{little, ordered, spelled, part, number_at}
 use Rattle.core_read.specs.Taken.{number_taken, up_to_nul, string_taken, over, Place}
-use Rattle.core_read.specs.declared.cursor.Taken.{Taken}
+use Rattle.core_read.specs.Taken.{Taken}
 use Rattle.core_read.specs.declared.cursor.ByteOrder.{ByteOrder}
 use Rattle.core_read.specs.declared.cursor.ByteOrder.TheVariants.{Little, Big}
 use Rattle.strip_records.specs.Typed.{Below}

@@ -10,7 +10,7 @@ use mir.Val.{SFits}
 use Rattle.core_read.proofs.TwosComplement.{signed_fits}
 use Rattle.core_read.specs.Bytes.{signed_of}
 use Rattle.core_read.specs.Taken.{number_taken, fixed_string_taken, Place}
-use Rattle.core_read.specs.declared.cursor.Taken.{Taken}
+use Rattle.core_read.specs.Taken.{Taken}
 use Rattle.core_read.specs.declared.cursor.ByteOrder.{ByteOrder}
 use Rattle.flags.specs.Fields.{flag_ex_of}
 use Rattle.flags.specs.declared.text.FontMeasureKind.{FontMeasureKind}
@@ -25,7 +25,7 @@ use Rattle.picture_fields.specs.Picture.{shape_taken, picture_taken, ShapeIndex}
 use Rattle.picture_fields.specs.Typed.{TypedPicture, TypedShape}
 use Rattle.text_box_fixed.specs.Fixed.{head_taken, font_taken, shadow_taken}
 use Rattle.text_box_parts.specs.Parts.{lines_at, lines_taken}
-use Rattle.text_box_parts.specs.declared.parts.LinesTaken.{LinesTaken}
+use Rattle.text_box_parts.specs.declared.parts.LinesFound.{LinesFound}
 use Rattle.text_box_read.specs.TextBox.{font_measure_of, assembled, text_box_taken}
 use Rattle.text_box_read.specs.Typed.{TypedTextBox, TypedMeasure}
 use Rattle.text_box_read.specs.declared.TextBoxPane.{TextBoxPane}
@@ -84,7 +84,7 @@ module _ (order : ByteOrder) (s : List ℕ) (h : Below 256 s) where
   unfolding flag_ex_of
   reserve_typed raw = omega arith
 
-  pub base_typed : (p : Place) → TypedBase (pane_taken order s p).pane
+  pub base_typed : (p : Place) → TypedBase (pane_taken order s p).value
   unfolding pane_taken fixed_string_taken
   base_typed p = record {
     pane = record {
@@ -107,7 +107,7 @@ module _ (order : ByteOrder) (s : List ℕ) (h : Below 256 s) where
   unfolding shape_taken
   shape_typed p byte = either (λ (t : Taken ShapeIndex). TypedShape t.value) (eqb byte 0) _ _ tt (taken_below order 4 s p h)
 
-  pub picture_typed : (p : Place) → TypedPicture (picture_taken order s p).picture
+  pub picture_typed : (p : Place) → TypedPicture (picture_taken order s p).value.picture
   unfolding picture_taken
   picture_typed p = record {
     colors = colors_typed _;
@@ -122,15 +122,15 @@ module _ (order : ByteOrder) (s : List ℕ) (h : Below 256 s) where
   measure_typed Size v t = t
   measure_typed Scale v t = t
 
-  font_typed : (p : Place) → TypedVector2 (font_taken order s p).measure
+  font_typed : (p : Place) → TypedVector2 (font_taken order s p).value.measure
   unfolding font_taken
   font_typed p = vector2_typed _
 
-  lines_typed : (p : Place) (body : ℕ) (line : Bool) (offset : ℕ) → TypedLines (lines_taken order s p body line offset).line_table
+  lines_typed : (p : Place) (body : ℕ) (line : Bool) (offset : ℕ) → TypedLines (lines_taken order s p body line offset).value.table
   unfolding lines_taken lines_at
-  lines_typed p body line offset = either (λ (t : LinesTaken). TypedLines t.line_table) (line && not (eqb offset 0)) _ _ (taken_below order 1 s _ h) tt
+  lines_typed p body line offset = either (λ (t : Taken LinesFound). TypedLines t.value.table) (line && not (eqb offset 0)) _ _ (taken_below order 1 s _ h) tt
 
-  pub text_box_typed : (p : Place) (body : ℕ) → TypedTexts (text_box_taken order s p body).text_box
+  pub text_box_typed : (p : Place) (body : ℕ) → TypedTexts (text_box_taken order s p body).value.text_box
   unfolding text_box_taken assembled head_taken font_taken shadow_taken
   text_box_typed p body = record {
     own = record {
@@ -141,7 +141,7 @@ module _ (order : ByteOrder) (s : List ℕ) (h : Below 256 s) where
       tilt = taken_below order 4 s _ h;
       top = color_typed _;
       bottom = color_typed _;
-      measure = measure_typed (head_taken order s p).word.measure (font_taken order s (head_taken order s p).then).measure (font_typed (head_taken order s p).then);
+      measure = measure_typed (head_taken order s p).value.word.measure (font_taken order s (head_taken order s p).then).value.measure (font_typed (head_taken order s p).then);
       character = taken_below order 4 s _ h;
       line = taken_below order 4 s _ h;
       shadow_translation = vector2_typed _;
@@ -158,7 +158,7 @@ module _ (order : ByteOrder) (s : List ℕ) (h : Below 256 s) where
   side_typed : (p : Place) → SFits w16 (signed_of (number_taken order 2 s p).value)
   side_typed p = signed_fits (number_taken order 2 s p).value (taken_below order 2 s p h)
 
-  pub window_typed : (p : Place) (body : ℕ) → TypedFrames (window_taken order s p body).window
+  pub window_typed : (p : Place) (body : ℕ) → TypedFrames (window_taken order s p body).value.window
   unfolding window_taken window_of windowHead sides_taken content_taken
   window_typed p body = record {
     own = record {
@@ -179,6 +179,6 @@ module _ (order : ByteOrder) (s : List ℕ) (h : Below 256 s) where
 
   -- ---- ali1
 
-  pub alignment_typed : (p : Place) → TypedAlignment (alignment_taken order s p).alignment
+  pub alignment_typed : (p : Place) → TypedAlignment (alignment_taken order s p).value
   unfolding alignment_taken
   alignment_typed p = record { direction = taken_below order 4 s _ h; margin = taken_below order 4 s _ h }

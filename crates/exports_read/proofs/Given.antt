@@ -142,7 +142,7 @@ unless P (Ok c) x y h k = k
 unless P (Err why) x y h k = h
 
 module _ (order : ByteOrder) (s : List ℕ) (h : Below 256 s) (p : Place) (body : ℕ) (x : Extent) where
-  pane_read_lem : TypedBase (pane_read order s p body x).pane
+  pane_read_lem : TypedBase (pane_read order s p body x).base
   unfolding pane_read pane_given pane_measured
   pane_read_lem = unless TypedBase _ _ _ blank_base (base_typed order s h p)
 
@@ -150,7 +150,7 @@ module _ (order : ByteOrder) (s : List ℕ) (h : Below 256 s) (p : Place) (body 
   unfolding picture_read picture_given picture_measured
   picture_base = unless TypedBase _ _ _ blank_base (base_typed order s h p)
 
-  picture_own : TypedPicture (picture_read order s p body x).picture
+  picture_own : TypedPicture (picture_read order s p body x).own
   unfolding picture_read picture_given picture_measured
   picture_own = unless TypedPicture _ _ _ blank_picture_lem (picture_typed order s h _)
 
@@ -158,7 +158,7 @@ module _ (order : ByteOrder) (s : List ℕ) (h : Below 256 s) (p : Place) (body 
   unfolding text_box_read text_box_given text_box_measured
   text_box_base = unless TypedBase _ _ _ blank_base (base_typed order s h p)
 
-  text_box_own : TypedTexts (text_box_read order s p body x).text_box
+  text_box_own : TypedTexts (text_box_read order s p body x).own
   unfolding text_box_read text_box_given text_box_measured
   text_box_own = unless TypedTexts _ _ _ blank_texts (text_box_typed order s h _ body)
 
@@ -166,7 +166,7 @@ module _ (order : ByteOrder) (s : List ℕ) (h : Below 256 s) (p : Place) (body 
   unfolding window_read window_given window_measured
   window_base = unless TypedBase _ _ _ blank_base (base_typed order s h p)
 
-  window_own : TypedFrames (window_read order s p body x).window
+  window_own : TypedFrames (window_read order s p body x).own
   unfolding window_read window_given window_measured
   window_own = unless TypedFrames _ _ _ blank_frames (window_typed order s h _ body)
 
@@ -174,7 +174,7 @@ module _ (order : ByteOrder) (s : List ℕ) (h : Below 256 s) (p : Place) (body 
   unfolding alignment_read alignment_given alignment_measured
   alignment_base = unless TypedBase _ _ _ blank_base (base_typed order s h p)
 
-  alignment_own : TypedAlignment (alignment_read order s p body x).alignment
+  alignment_own : TypedAlignment (alignment_read order s p body x).own
   unfolding alignment_read alignment_given alignment_measured
   alignment_own = unless TypedAlignment _ _ _ blank_alignment_lem (alignment_typed order s h _)
 

@@ -1,5 +1,5 @@
 // A body that was read, as a section with its next place: its words are stored where it was not refused.
-ghost use Rattle.std.specs.Prelude.{◌≤◌, length, ◌≡◌};
+ghost use Rattle.std.specs.Prelude.{◌≡◌};
 ghost use Rattle.strip_records.specs.Whole.{Lists};
 ghost use Rattle.strip_read.specs.Read.{finished};
 ghost use Rattle.exports_answers.specs.Answers.{section_answer};
@@ -7,22 +7,21 @@ ghost use Rattle.exports_read.specs.Outcomes.{read_outcome, delivered};
 
 use core_read::cursor::Cursor;
 use core_read::error::Refusal;
+use flat::words::WordsMut;
 use flat_records::records::Own;
-use pane::Pane;
+use pane_read::parsed::Parsed;
 use strip_header::Section;
 
 #[tactic(auto, unfolding(crate::specs::Outcomes::delivered, strip_read::specs::Read::finished, strip_read::specs::Read::refused_with))]
-pub(crate) fn deliver<T: Own>(
-    words: &mut [u64],
-    x: Result<Cursor, Refusal>,
+pub(crate) fn deliver<'a, 's, T: Own>(
+    words: &'s mut WordsMut<'a>,
     next: usize,
-    base: Pane,
-    own: T,
+    read: Parsed<T>,
 ) -> Result<Section, Refusal>
-    requires { 116 ≤ length words.old }
-    ensures { (l : Lists) → read_outcome (section_answer result) words.new l ≡ delivered (finished x next (T.of_kind base own)) words.old l }
+    ensures same_record { words.new.words.ghost_name ≡ words.old.words.ghost_name }
+    ensures delivered { (l : Lists) → read_outcome (section_answer result) words.new.words.now l ≡ delivered (finished read.answer next (T.of_kind read.base read.own)) words.old.words.now l }
 {
-    let Cursor { pos: end, reach } = x?;
-    own.put(base, words);
+    let Cursor { pos: end, reach } = read.answer?;
+    read.own.put(read.base, words);
     Ok(Section::Pane { end, next, reach })
 }

@@ -1,134 +1,90 @@
 // The read calls over the words of a record.
-ghost use Rattle.std.specs.Prelude.{◌≤◌, length, ◌≡◌};
-ghost use Rattle.strip_records.specs.Whole.{lists};
-ghost use Rattle.strip_read.specs.Read.{read_at, lists_at, read_section, lists_after};
-ghost use Rattle.strip_records.specs.Whole.{Full};
+ghost use Rattle.std.specs.Prelude.{◌≡◌};
+ghost use Rattle.strip_read.specs.Read.{read_section, lists_after};
+ghost use Rattle.strip_records.specs.Held.{held, Filled};
 ghost use Rattle.exports_answers.specs.Answers.{section_answer, section_told};
 ghost use Rattle.exports_read.specs.Outcomes.{read_outcome, delivered, section_outcome, body_outcome};
 
 use crate::{bodies, sections};
-use core_read::cursor::ByteOrder;
 use core_read::error::Refusal;
+use core_read::reader::{Reader, Source};
 use exports_answers::answers;
 use exports_answers::answers::Fault;
-use flat::layout;
+use flat::words::{Words, WordsMut};
 use flat_records::records;
 use strip_header::Section;
-use strip_records::kind::Kind;
+use strip_read::read::body_at;
+use strip_records::lists::Lists;
 
 // ---- a section
 
-fn read_at(
-    order: ByteOrder,
-    data: &[u8],
+// The section at a place: checks 1, 2, 3, the end, the header, check 8, the body, checks 7 and 19.
+fn read_in<'a, 'l, 't, 'w, 's>(
+    source: Source<'a>,
     place: usize,
-    quads: &mut [u32],
-    units: &mut [u16],
-    lines: &mut [u32],
-    frames: &mut [u16],
-    words: &mut [u64],
+    lists: &'t mut Lists<'l>,
+    words: &'s mut WordsMut<'w>,
 ) -> Result<Section, Refusal>
-    requires { (place ≤ length «data».now) × (length «data».now ≤ 16777216) × Full (lists quads.old units.old lines.old frames.old) × (116 ≤ length words.old) }
-    ensures { read_outcome (section_answer result) words.new (lists quads.new units.new lines.new frames.new) ≡ delivered (read_at order «data».now place) words.old (lists_at order «data».now place (lists quads.old units.old lines.old frames.old)) }
+    ensures same_record { words.new.words.ghost_name ≡ words.old.words.ghost_name }
+    ensures lists_after { Filled lists.old lists.new (lists_after source.entry.order source.entry.«data».now place (held lists.old)) }
+    ensures delivered { read_outcome (section_answer result) words.new.words.now (held lists.new) ≡ delivered (read_section source.entry.order source.entry.«data».now place (held lists.old)) words.old.words.now (held lists.new) }
 {
-    let header = strip_header::take_header(order, data, place);
-    let letters = header.letters;
-    let size = header.size;
-    let then = header.then;
-    let c = then?;
-    let next = place + size;
-    let Some(kind) = Kind::of_letters(letters) else {
-        return Ok(Section::Passed { next });
-    };
-    let body = place + 8;
-    sections::read_kind(
-        order,
-        kind,
-        data,
-        Ok(c),
-        body,
-        next,
-        quads,
-        units,
-        lines,
-        frames,
-        words,
-    )
-}
-
-// The checks before a section, the end, and then the section at a place.
-fn read_started(
-    order: ByteOrder,
-    data: &[u8],
-    place: usize,
-    quads: &mut [u32],
-    units: &mut [u16],
-    lines: &mut [u32],
-    frames: &mut [u16],
-    words: &mut [u64],
-) -> Result<Section, Refusal>
-    requires { 116 ≤ length words.old }
-    ensures { read_outcome (section_answer result) words.new (lists quads.new units.new lines.new frames.new) ≡ delivered (read_section order «data».now place (lists quads.old units.old lines.old frames.old)) words.old (lists_after order «data».now place (lists quads.old units.old lines.old frames.old)) }
-{
-    strip_header::read_start(
-        data.len(),
+    let checked = strip_header::read_start(
+        source.data.len(),
         place,
-        quads.len(),
-        units.len(),
-        lines.len(),
-        frames.len(),
-    )?;
-    if place == data.len() {
-        return Ok(Section::End);
+        lists.quads.len(),
+        lists.units.len(),
+        lists.lines.len(),
+        lists.frames.len(),
+    );
+    match body_at(source, place, checked) {
+        Ok(b) => {
+            let cursor = b.run;
+            let r = Reader { source, cursor };
+            sections::read_kind(r, b.kind, place + 8, b.next, lists, words)
+        }
+        Err(read) => read.answer,
     }
-    read_at(order, data, place, quads, units, lines, frames, words)
 }
 
 // BAD_ORDER, SHORT_RECORD, and then the section at a place.
-pub fn read_section(
+#[tactic(auto, unfolding(crate::specs::Outcomes::section_outcome, exports_answers::specs::Answers::order_of))]
+pub fn read_section<'l, 't>(
     order: u64,
     data: &[u8],
     place: usize,
-    quads: &mut [u32],
-    units: &mut [u16],
-    lines: &mut [u32],
-    frames: &mut [u16],
+    lists: &'t mut Lists<'l>,
     words: &mut [u64],
 ) -> Result<Section, Fault>
-    ensures { read_outcome (section_told result) words.new (lists quads.new units.new lines.new frames.new) ≡ section_outcome order «data».now place (lists quads.old units.old lines.old frames.old) words.old }
+    ensures same_lists { Filled lists.old lists.new (held lists.new) }
+    ensures outcome { read_outcome (section_told result) words.new (held lists.new) ≡ section_outcome order «data».now place (held lists.old) words.old }
 {
-    let o = answers::order_of(order)?;
-    if words.len() < layout::RECORD_WORDS {
-        return Err(Fault::ShortRecord);
-    }
-    let found = read_started(o, data, place, quads, units, lines, frames, words)?;
+    let order = answers::order_of(order)?;
+    Words::of(words).ok_or(Fault::ShortRecord)?;
+    let mut record = WordsMut { words };
+    let found = read_in(Source { order, data }, place, lists, &mut record)?;
     Ok(found)
 }
 
 // ---- a body
 
 // BAD_ORDER, SHORT_RECORD, BAD_WORD of the kind, and then its body at a place.
-pub fn read_body(
+#[tactic(auto, unfolding(crate::specs::Outcomes::body_outcome, crate::specs::Outcomes::body_delivered, exports_answers::specs::Answers::order_of))]
+pub fn read_body<'l, 't>(
     order: u64,
     kind: u64,
     data: &[u8],
     place: usize,
-    quads: &mut [u32],
-    units: &mut [u16],
-    lines: &mut [u32],
-    frames: &mut [u16],
+    lists: &'t mut Lists<'l>,
     words: &mut [u64],
 ) -> Result<Section, Fault>
-    ensures { read_outcome (section_told result) words.new (lists quads.new units.new lines.new frames.new) ≡ body_outcome order kind «data».now place (lists quads.old units.old lines.old frames.old) words.old }
+    ensures same_lists { Filled lists.old lists.new (held lists.new) }
+    ensures outcome { read_outcome (section_told result) words.new (held lists.new) ≡ body_outcome order kind «data».now place (held lists.old) words.old }
 {
-    let o = answers::order_of(order)?;
-    if words.len() < layout::RECORD_WORDS {
-        return Err(Fault::ShortRecord);
-    }
-    if 5 <= kind {
-        return Err(Fault::BadWord { index: 0 });
-    }
-    let k = records::kind_of(kind);
-    let found = bodies::parse_kind(o, k, data, place, quads, units, lines, frames, words)?;
+    let order = answers::order_of(order)?;
+    Words::of(words).ok_or(Fault::ShortRecord)?;
+    let k = records::kind_at(kind).ok_or(Fault::BadWord { index: 0 })?;
+    let mut record = WordsMut { words };
+    let found = bodies::parse_kind(Source { order, data }, k, place, lists, &mut record)?;
     Ok(found)
 }

@@ -5,10 +5,10 @@ use native.Mathlib.Nat.{add-zero}
 use native.Mathlib.Omega.{arith}
 use native.Mathlib.Numerals.{add-one}
 use mathlib.Core.List.{List, [], ◌∷◌, ◌++◌}
-use lib.ListN.{length, take, drop, set, get_or, length-set}
-use lib.Seq.{drop-drop, take_all, take-suc-set, length-take-le}
+use lib.ListN.{length, take, drop, set, length-set}
+use lib.Seq.{drop-drop, take_all, take-suc-set}
 use Rattle.core_read.specs.Bytes.{splice}
-use Rattle.core_write.proofs.Puts.{length_splice, splice_append, splice_cut, take_more}
+use Rattle.core_write.proofs.Puts.{length_splice, splice_append, splice_cut}
 use Rattle.std.proofs.Common.{append_assoc}
 use borrow.Rule.Slice.PartMut.{put_mid}
 use Rattle.flat.specs.Words.{Stored, byte_at, bytes_at}
@@ -37,24 +37,6 @@ stored_run o p e {m} h k =
     let cut : put_mid p (p + length e - p) o m ≡ splice o p e =
     rw (n, k) (ap (λ (l : List ℕ). take p o ++ (e ++ l)) (drop-drop (length e) p o) ∙ sym (splice_cut o p e h ∙ append_assoc (take p o) e (drop (p + length e) o))) in
     record { long = ap length cut ∙ length_splice o p e; words = cut }
-
--- a kind's own words after its number and the base
-pub stored_own : {o o₁ o₂ : List ℕ} {k : ℕ} {b e : List ℕ} → Stored o 0 ((k ∷ []) ++ b) o₁ → length b ≡ 61 → Stored o₁ 62 e o₂ → Stored o 0 ((k ∷ []) ++ (b ++ e)) o₂
-stored_own h n x = next (omega (arith, n)) h x
-
--- ---- a loop that stores the numbers of a list
-
-pub stored_none : (o : List ℕ) (p : ℕ) (s : List ℕ) → Stored o p (take 0 s) o
-unfolding splice
-stored_none o p s = record { long = refl; words = refl }
-
-pub stored_more : {o o₁ : List ℕ} (p i : ℕ) (s : List ℕ) → i < length s → Stored o p (take i s) o₁ → Stored o p (take (i + 1) s) (set o₁ (p + i) (get_or s i 0))
-stored_more {o} {o₁} p i s h k =
-    let n : length (take i s) ≡ i = length-take-le i s (omega arith) in
-    stored_as (sym (take_more s i h)) (next (ap (λ (k : ℕ). p + k) n) k (stored_one o₁ (p + i) (get_or s i 0)))
-
-pub stored_all : {o o₁ : List ℕ} {p i : ℕ} {s : List ℕ} → length s ≤ i → Stored o p (take i s) o₁ → Stored o p s o₁
-stored_all {i = i} {s = s} h k = stored_as (take_all i s h) k
 
 -- ---- a loop that reads bytes back
 

@@ -1,5 +1,5 @@
 -- Words at a place of a lent record, and the values that they stand for.
-use Rattle.std.specs.Prelude.{◌≡◌, ℕ, zero, suc, ◌+◌, ◌%◌, Bool, List, [], ◌∷◌, ◌++◌, length, get_or}
+use Rattle.std.specs.Prelude.{◌≡◌, ℕ, zero, suc, ◌+◌, ◌%◌, Bool, cond, List, [], ◌∷◌, ◌++◌, length, get_or, Option, None, Some}
 use mir.Val.{bool_byte}
 use Rattle.core_read.specs.Bytes.{splice}
 use Rattle.flags.specs.Packed.{flag_of}
@@ -28,6 +28,11 @@ color_words v = v.r ∷ v.g ∷ v.b ∷ v.a ∷ []
 -- top left, top right, bottom left, bottom right
 abbrev pub colors_words : List Color4u8 → List ℕ
 colors_words vs = color_words (color_at vs 0) ++ (color_words (color_at vs 1) ++ (color_words (color_at vs 2) ++ color_words (color_at vs 3)))
+
+-- 0 and 0, or 1 and what there is
+abbrev pub option_words : {A : Type 0} → (A → ℕ) → Option A → List ℕ
+option_words word None = 0 ∷ 0 ∷ []
+option_words word (Some x) = 1 ∷ word x ∷ []
 
 -- ---- read back
 
@@ -58,6 +63,10 @@ quadruple_at w i = record { r = byte_at w i; g = byte_at w (i + 1); b = byte_at 
 
 abbrev pub colors_at : List ℕ → ℕ → List Color4u8
 colors_at w i = quadruple_at w i ∷ quadruple_at w (i + 4) ∷ quadruple_at w (i + 8) ∷ quadruple_at w (i + 12) ∷ []
+
+-- what stands at i, where the flag at f is set
+abbrev pub option_at : {A : Type 0} → (ℕ → A) → List ℕ → ℕ → ℕ → Option A
+option_at of w f i = cond (flag_at w f) (Some (of (get_or w i 0))) None
 
 -- n bytes from a place on
 unfoldable pub bytes_at : List ℕ → ℕ → ℕ → List ℕ

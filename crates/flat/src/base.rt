@@ -1,9 +1,10 @@
 // The words of the base.
 ghost use Rattle.std.specs.Prelude.{◌≤◌, ◌+◌, length, ◌∷◌, ◌≡◌};
-ghost use Rattle.flat.specs.Words.{Stored};
+ghost use Rattle.flat.specs.Lent.{Stores};
 ghost use Rattle.flat.specs.Base.{pane_flags_words, position_words, flag_ex_words, transform_words, base_words, pane_flags_at, position_at, flag_ex_at, string_at, base_at};
 
-use crate::{layout, words};
+use crate::layout;
+use crate::words::{Words, WordsMut};
 use core_read::text::FixedString;
 use flags::pane::{PaneFlags, PaneFlagsEx};
 use flags::position::{BflytPosition, HorizontalPosition, VerticalPosition};
@@ -12,9 +13,8 @@ use ui2d::{Vector2f, Vector3f};
 
 // ---- stored
 
-fn put_flags(out: &mut [u64], f: PaneFlags)
-    requires { 116 ≤ length out.old }
-    ensures { Stored out.old 1 (pane_flags_words f) out.new }
+fn put_flags<'a, 's>(out: &'s mut WordsMut<'a>, f: PaneFlags)
+    ensures { Stores out.old out.new 1 (pane_flags_words f) }
 {
     let words = [
         f.is_visible as u64,
@@ -26,12 +26,11 @@ fn put_flags(out: &mut [u64], f: PaneFlags)
         f.is_global_matrix_user as u64,
         f.is_constant_buffer_ready as u64,
     ];
-    words::store(out, layout::PANE_FLAGS, &words);
+    out.store(layout::PANE_FLAGS, &words);
 }
 
-fn put_position(out: &mut [u64], g: BflytPosition)
-    requires { 116 ≤ length out.old }
-    ensures { Stored out.old 9 (position_words g) out.new }
+fn put_position<'a, 's>(out: &'s mut WordsMut<'a>, g: BflytPosition)
+    ensures { Stores out.old out.new 9 (position_words g) }
 {
     let x = g.position_x;
     let y = g.position_y;
@@ -43,12 +42,11 @@ fn put_position(out: &mut [u64], g: BflytPosition)
         u8::from(parent_x) as u64,
         u8::from(parent_y) as u64,
     ];
-    words::store(out, layout::POSITION, &words);
+    out.store(layout::POSITION, &words);
 }
 
-fn put_flag_ex(out: &mut [u64], alpha: u8, x: PaneFlagsEx)
-    requires { 116 ≤ length out.old }
-    ensures { Stored out.old 13 (flag_ex_words alpha x) out.new }
+fn put_flag_ex<'a, 's>(out: &'s mut WordsMut<'a>, alpha: u8, x: PaneFlagsEx)
+    ensures { Stores out.old out.new 13 (flag_ex_words alpha x) }
 {
     let words = [
         alpha as u64,
@@ -57,21 +55,26 @@ fn put_flag_ex(out: &mut [u64], alpha: u8, x: PaneFlagsEx)
         x.is_ext_user_data as u64,
         x.reserve0 as u64,
     ];
-    words::store(out, layout::ALPHA, &words);
+    out.store(layout::ALPHA, &words);
 }
 
 // A fixed string: its count, and from the next word on every byte of the array.
-fn put_string(out: &mut [u64], at: usize, count: usize, bytes: &[u8])
-    requires { at + 1 + length bytes.now ≤ length out.old }
-    ensures { Stored out.old at (count ∷ bytes.now) out.new }
+fn put_string<'a, 's>(out: &'s mut WordsMut<'a>, at: usize, count: usize, bytes: &[u8])
+    requires { at + 1 + length bytes.now ≤ length out.old.words.now }
+    ensures { Stores out.old out.new at (count ∷ bytes.now) }
 {
-    out[at] = count as u64;
-    words::store_bytes(out, at + 1, bytes);
+    out.set(at, count as u64);
+    out.store_bytes(at + 1, bytes);
 }
 
-fn put_transform(out: &mut [u64], t: Vector3f, r: Vector3f, c: Vector2f, s: Vector2f)
-    requires { 116 ≤ length out.old }
-    ensures { Stored out.old 52 (transform_words t r c s) out.new }
+fn put_transform<'a, 's>(
+    out: &'s mut WordsMut<'a>,
+    t: Vector3f,
+    r: Vector3f,
+    c: Vector2f,
+    s: Vector2f,
+)
+    ensures { Stores out.old out.new 52 (transform_words t r c s) }
 {
     let words = [
         t.x.bits as u64,
@@ -85,12 +88,11 @@ fn put_transform(out: &mut [u64], t: Vector3f, r: Vector3f, c: Vector2f, s: Vect
         s.x.bits as u64,
         s.y.bits as u64,
     ];
-    words::store(out, layout::TRANSLATION, &words);
+    out.store(layout::TRANSLATION, &words);
 }
 
-pub fn put_base(out: &mut [u64], b: Pane)
-    requires { 116 ≤ length out.old }
-    ensures { Stored out.old 1 (base_words b) out.new × (length (base_words b) ≡ 61) }
+pub fn put_base<'a, 's>(out: &'s mut WordsMut<'a>, b: Pane)
+    ensures { Stores out.old out.new 1 (base_words b) × (length (base_words b) ≡ 61) }
 {
     put_flags(out, b.pane_flags);
     put_position(out, b.position);
@@ -112,36 +114,28 @@ pub fn put_base(out: &mut [u64], b: Pane)
 
 // ---- read back
 
-fn flags_of(w: &[u64]) -> PaneFlags
-    requires { 116 ≤ length w.now }
-    ensures { result ≡ pane_flags_at w.now }
+fn flags_of(w: Words) -> PaneFlags
+    ensures { result ≡ pane_flags_at w.entry.words.now }
 {
     PaneFlags {
-        is_visible: w[layout::PANE_FLAGS] == 1,
-        influenced_alpha: w[layout::PANE_FLAGS + 1] == 1,
-        location_adjust: w[layout::PANE_FLAGS + 2] == 1,
-        user_allocated: w[layout::PANE_FLAGS + 3] == 1,
-        is_global_matrix_dirty: w[layout::PANE_FLAGS + 4] == 1,
-        is_srt_matrix_user: w[layout::PANE_FLAGS + 5] == 1,
-        is_global_matrix_user: w[layout::PANE_FLAGS + 6] == 1,
-        is_constant_buffer_ready: w[layout::PANE_FLAGS + 7] == 1,
+        is_visible: w.at(layout::PANE_FLAGS),
+        influenced_alpha: w.at(layout::PANE_FLAGS + 1),
+        location_adjust: w.at(layout::PANE_FLAGS + 2),
+        user_allocated: w.at(layout::PANE_FLAGS + 3),
+        is_global_matrix_dirty: w.at(layout::PANE_FLAGS + 4),
+        is_srt_matrix_user: w.at(layout::PANE_FLAGS + 5),
+        is_global_matrix_user: w.at(layout::PANE_FLAGS + 6),
+        is_constant_buffer_ready: w.at(layout::PANE_FLAGS + 7),
     }
 }
 
-fn position_of(w: &[u64]) -> BflytPosition
-    requires { 116 ≤ length w.now }
-    ensures { result ≡ position_at w.now }
+fn position_of(w: Words) -> BflytPosition
+    ensures { result ≡ position_at w.entry.words.now }
 {
-    let position_x = HorizontalPosition::from(words::byte_at(w, layout::POSITION));
-    let position_y = VerticalPosition::from(words::byte_at(w, layout::POSITION + 1));
-    let parent_relative_position_x = HorizontalPosition::from(words::byte_at(
-        w,
-        layout::POSITION + 2,
-    ));
-    let parent_relative_position_y = VerticalPosition::from(words::byte_at(
-        w,
-        layout::POSITION + 3,
-    ));
+    let position_x = HorizontalPosition::from(w.at::<u8>(layout::POSITION));
+    let position_y = VerticalPosition::from(w.at::<u8>(layout::POSITION + 1));
+    let parent_relative_position_x = HorizontalPosition::from(w.at::<u8>(layout::POSITION + 2));
+    let parent_relative_position_y = VerticalPosition::from(w.at::<u8>(layout::POSITION + 3));
     BflytPosition {
         position_x,
         position_y,
@@ -150,43 +144,42 @@ fn position_of(w: &[u64]) -> BflytPosition
     }
 }
 
-fn flag_ex_of(w: &[u64]) -> PaneFlagsEx
-    requires { 116 ≤ length w.now }
-    ensures { result ≡ flag_ex_at w.now }
+fn flag_ex_of(w: Words) -> PaneFlagsEx
+    ensures { result ≡ flag_ex_at w.entry.words.now }
 {
     PaneFlagsEx {
-        is_no_scale_by_parts: w[layout::FLAG_EX] == 1,
-        is_scale_size_by_parts_root: w[layout::FLAG_EX + 1] == 1,
-        is_ext_user_data: w[layout::FLAG_EX + 2] == 1,
-        reserve0: (w[layout::RESERVE0] % 256) as u8,
+        is_no_scale_by_parts: w.at(layout::FLAG_EX),
+        is_scale_size_by_parts_root: w.at(layout::FLAG_EX + 1),
+        is_ext_user_data: w.at(layout::FLAG_EX + 2),
+        reserve0: w.at(layout::RESERVE0),
     }
 }
 
 // A fixed string, as put_string stores it.
-fn string_of<const N: usize>(w: &[u64], at: usize) -> FixedString<N>
-    requires { at + 1 + N ≤ length w.now }
-    ensures { result ≡ string_at N w.now at }
+fn string_of<const N: usize>(w: Words, at: usize) -> FixedString<N>
+    requires { at + 1 + N ≤ length w.words.now }
+    ensures { result ≡ string_at N w.entry.words.now at }
 {
     let mut bytes = [0u8; N];
-    words::bytes_at(w, at + 1, &mut bytes);
-    let count = w[at] as usize;
+    w.bytes_at(at + 1, &mut bytes);
+    let count = w.words[at] as usize;
     FixedString { bytes, count }
 }
 
-pub fn base_of(w: &[u64]) -> Pane
-    requires { 116 ≤ length w.now }
-    ensures { result ≡ base_at w.now }
+#[tactic(auto, unfolding(crate::specs::Base::base_at))]
+pub fn base_of(w: Words) -> Pane
+    ensures { result ≡ base_at w.entry.words.now }
 {
     let pane_flags = flags_of(w);
     let position = position_of(w);
-    let alpha = words::byte_at(w, layout::ALPHA);
+    let alpha = w.at(layout::ALPHA);
     let flag_ex = flag_ex_of(w);
     let pane_name = string_of(w, layout::NAME_COUNT);
     let user_name = string_of(w, layout::USER_COUNT);
-    let translation = words::vector3_at(w, layout::TRANSLATION);
-    let rotation = words::vector3_at(w, layout::ROTATION);
-    let scale = words::vector2_at(w, layout::SCALE);
-    let size = words::vector2_at(w, layout::SIZE);
+    let translation = w.vector3_at(layout::TRANSLATION);
+    let rotation = w.vector3_at(layout::ROTATION);
+    let scale = w.vector2_at(layout::SCALE);
+    let size = w.vector2_at(layout::SIZE);
     Pane {
         pane_flags,
         position,

@@ -7,15 +7,14 @@ use Rattle.picture_fields.specs.declared.PicturePane.{PicturePane}
 use Rattle.window_read.specs.declared.WindowContent.{WindowContent}
 use Rattle.window_read.specs.declared.WindowPane.{WindowPane}
 use Rattle.alignment_fields.specs.declared.AlignmentPane.{AlignmentPane}
-use Rattle.flat.specs.Words.{flag_word, colors_words, byte_at, half_at, word_at, flag_at, float_at, colors_at}
+use Rattle.flat.specs.Words.{flag_word, colors_words, byte_at, half_at, word_at, flag_at, float_at, colors_at, option_words}
 use Rattle.picture_fields.specs.Picture.{ShapeIndex}
 
 -- ---- pic1
 
 -- SHAPE_PRESENT, SHAPE_INDEX
 abbrev pub shape_words : ShapeIndex → List ℕ
-shape_words None = 0 ∷ 0 ∷ []
-shape_words (Some i) = 1 ∷ i ∷ []
+shape_words x = option_words (λ i. i) x
 
 -- PICTURE_COLORS, PICTURE_MATERIAL, PICTURE_QUADS, and the shape
 unfoldable pub picture_words : PicturePane → List ℕ

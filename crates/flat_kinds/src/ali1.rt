@@ -1,15 +1,14 @@
 // The words that an alignment pane has beyond the base.
-ghost use Rattle.std.specs.Prelude.{◌≤◌, length, ◌≡◌};
-ghost use Rattle.flat.specs.Words.{Stored};
+ghost use Rattle.std.specs.Prelude.{◌≡◌};
+ghost use Rattle.flat.specs.Lent.{Stores};
 ghost use Rattle.flat_kinds.specs.Own.{alignment_words, alignment_at};
 
 use alignment_fields::AlignmentPane;
-use flat::{layout, words};
-use floats::Binary32;
+use flat::layout;
+use flat::words::{Words, WordsMut};
 
-pub fn put_alignment(out: &mut [u64], x: AlignmentPane)
-    requires { 116 ≤ length out.old }
-    ensures { Stored out.old 62 (alignment_words x) out.new }
+pub fn put_alignment<'a, 's>(out: &'s mut WordsMut<'a>, x: AlignmentPane)
+    ensures { Stores out.old out.new 62 (alignment_words x) }
 {
     let words = [
         x.direction as u64,
@@ -17,19 +16,16 @@ pub fn put_alignment(out: &mut [u64], x: AlignmentPane)
         x.is_align_last_pane as u64,
         x.is_vertical_alignment as u64,
     ];
-    words::store(out, layout::DIRECTION, &words);
+    out.store(layout::DIRECTION, &words);
 }
 
-pub fn alignment_of(w: &[u64]) -> AlignmentPane
-    requires { 116 ≤ length w.now }
-    ensures { result ≡ alignment_at w.now }
+pub fn alignment_of(w: Words) -> AlignmentPane
+    ensures { result ≡ alignment_at w.entry.words.now }
 {
     AlignmentPane {
-        direction: (w[layout::DIRECTION] % 4_294_967_296) as u32,
-        default_margin: Binary32 {
-            bits: (w[layout::DEFAULT_MARGIN] % 4_294_967_296) as u32,
-        },
-        is_align_last_pane: w[layout::IS_ALIGN_LAST_PANE] == 1,
-        is_vertical_alignment: w[layout::IS_VERTICAL_ALIGNMENT] == 1,
+        direction: w.at(layout::DIRECTION),
+        default_margin: w.at(layout::DEFAULT_MARGIN),
+        is_align_last_pane: w.at(layout::IS_ALIGN_LAST_PANE),
+        is_vertical_alignment: w.at(layout::IS_VERTICAL_ALIGNMENT),
     }
 }

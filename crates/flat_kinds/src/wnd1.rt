@@ -1,19 +1,27 @@
 // The words that a window has beyond the base.
 ghost use Rattle.std.specs.Prelude.{◌+◌, ◌≤◌, length, [], ◌∷◌, ◌≡◌};
-ghost use Rattle.flat.specs.Words.{Stored};
+ghost use Rattle.flat.specs.Lent.{Stores};
 ghost use Rattle.core_read.specs.Bytes.{bits_of};
 ghost use Rattle.flat_kinds.specs.Own.{window_flags_words, content_words, window_words, side_at, window_flags_at, content_at, window_at};
 
 use core_read::signed;
 use flags::window::{WindowFlags, WindowKind};
-use flat::{layout, words};
+use flat::layout;
+use flat::words::{Words, WordsMut};
 use window_read::{WindowContent, WindowPane};
 
 // ---- stored
 
-fn put_sides(out: &mut [u64], at: usize, left: i16, right: i16, top: i16, bottom: i16)
-    requires { at + 4 ≤ length out.old }
-    ensures { Stored out.old at (bits_of left ∷ bits_of right ∷ bits_of top ∷ bits_of bottom ∷ []) out.new }
+fn put_sides<'a, 's>(
+    out: &'s mut WordsMut<'a>,
+    at: usize,
+    left: i16,
+    right: i16,
+    top: i16,
+    bottom: i16,
+)
+    requires { at + 4 ≤ length out.old.words.now }
+    ensures { Stores out.old out.new at (bits_of left ∷ bits_of right ∷ bits_of top ∷ bits_of bottom ∷ []) }
 {
     let words = [
         signed::bits_of(left) as u64,
@@ -21,12 +29,11 @@ fn put_sides(out: &mut [u64], at: usize, left: i16, right: i16, top: i16, bottom
         signed::bits_of(top) as u64,
         signed::bits_of(bottom) as u64,
     ];
-    words::store(out, at, &words);
+    out.store(at, &words);
 }
 
-fn put_flag(out: &mut [u64], f: WindowFlags, frame_count: u8)
-    requires { 116 ≤ length out.old }
-    ensures { Stored out.old 70 (window_flags_words f frame_count) out.new }
+fn put_flag<'a, 's>(out: &'s mut WordsMut<'a>, f: WindowFlags, frame_count: u8)
+    ensures { Stores out.old out.new 70 (window_flags_words f frame_count) }
 {
     let kind = f.window_kind;
     let words = [
@@ -36,22 +43,20 @@ fn put_flag(out: &mut [u64], f: WindowFlags, frame_count: u8)
         f.not_draw_content as u64,
         frame_count as u64,
     ];
-    words::store(out, layout::WINDOW_FLAGS, &words);
+    out.store(layout::WINDOW_FLAGS, &words);
 }
 
-fn put_content(out: &mut [u64], x: WindowContent)
-    requires { 116 ≤ length out.old }
-    ensures { Stored out.old 75 (content_words x) out.new }
+fn put_content<'a, 's>(out: &'s mut WordsMut<'a>, x: WindowContent)
+    ensures { Stores out.old out.new 75 (content_words x) }
 {
     let colors = x.vertex_colors;
     let words = [x.material_index as u64, x.quad_count as u64];
-    words::store_colors(out, layout::CONTENT_COLORS, colors);
-    words::store(out, layout::CONTENT_MATERIAL, &words);
+    out.store_colors(layout::CONTENT_COLORS, colors);
+    out.store(layout::CONTENT_MATERIAL, &words);
 }
 
-pub fn put_window(out: &mut [u64], x: WindowPane)
-    requires { 116 ≤ length out.old }
-    ensures { Stored out.old 62 (window_words x) out.new }
+pub fn put_window<'a, 's>(out: &'s mut WordsMut<'a>, x: WindowPane)
+    ensures { Stores out.old out.new 62 (window_words x) }
 {
     put_sides(
         out,
@@ -75,43 +80,38 @@ pub fn put_window(out: &mut [u64], x: WindowPane)
 
 // ---- read back
 
-fn side_at(w: &[u64], at: usize) -> i16
-    requires { at + 1 ≤ length w.now }
-    ensures { result ≡ side_at w.now at }
+fn side_at(w: Words, at: usize) -> i16
+    requires { at + 1 ≤ length w.words.now }
+    ensures { result ≡ side_at w.entry.words.now at }
 {
-    let bits = (w[at] % 65_536) as u16;
-    signed::signed_of(bits)
+    signed::signed_of(w.at(at))
 }
 
-fn flag_of(w: &[u64]) -> WindowFlags
-    requires { 116 ≤ length w.now }
-    ensures { result ≡ window_flags_at w.now }
+fn flag_of(w: Words) -> WindowFlags
+    ensures { result ≡ window_flags_at w.entry.words.now }
 {
-    let number = (w[layout::WINDOW_KIND] % 256) as u8;
-    let window_kind = WindowKind::from(number);
+    let window_kind = WindowKind::from(w.at::<u8>(layout::WINDOW_KIND));
     WindowFlags {
-        use_left_corner_material: w[layout::WINDOW_FLAGS] == 1,
-        use_vertex_color_for_all_window: w[layout::WINDOW_FLAGS + 1] == 1,
+        use_left_corner_material: w.at(layout::WINDOW_FLAGS),
+        use_vertex_color_for_all_window: w.at(layout::WINDOW_FLAGS + 1),
         window_kind,
-        not_draw_content: w[layout::NOT_DRAW_CONTENT] == 1,
+        not_draw_content: w.at(layout::NOT_DRAW_CONTENT),
     }
 }
 
-fn content_of(w: &[u64]) -> WindowContent
-    requires { 116 ≤ length w.now }
-    ensures { result ≡ content_at w.now }
+fn content_of(w: Words) -> WindowContent
+    ensures { result ≡ content_at w.entry.words.now }
 {
-    let vertex_colors = words::colors_at(w, layout::CONTENT_COLORS);
+    let vertex_colors = w.colors_at(layout::CONTENT_COLORS);
     WindowContent {
         vertex_colors,
-        material_index: (w[layout::CONTENT_MATERIAL] % 65_536) as u16,
-        quad_count: (w[layout::CONTENT_QUADS] % 256) as u8,
+        material_index: w.at(layout::CONTENT_MATERIAL),
+        quad_count: w.at(layout::CONTENT_QUADS),
     }
 }
 
-pub fn window_of(w: &[u64]) -> WindowPane
-    requires { 116 ≤ length w.now }
-    ensures { result ≡ window_at w.now }
+pub fn window_of(w: Words) -> WindowPane
+    ensures { result ≡ window_at w.entry.words.now }
 {
     let inflation_left = side_at(w, layout::INFLATION);
     let inflation_right = side_at(w, layout::INFLATION + 1);
@@ -133,7 +133,7 @@ pub fn window_of(w: &[u64]) -> WindowPane
         frame_size_top,
         frame_size_bottom,
         flag,
-        frame_count: (w[layout::FRAMES_COUNT] % 256) as u8,
+        frame_count: w.at(layout::FRAMES_COUNT),
         content,
     }
 }

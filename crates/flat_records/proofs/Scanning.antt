@@ -6,7 +6,7 @@ use borrow.Author.Tests.{lt-ltb, le-ltb, leb-true, leb-false}
 use Rattle.strip_records.specs.declared.kind.Kind.{Kind}
 use Rattle.strip_records.specs.declared.kind.Kind.TheVariants.{Pan1, Pic1, Txt1, Wnd1, Ali1}
 use Rattle.flat_records.specs.Below.{Checked, good, bad, scanned, or_scanned, Bound, checked_by, all_within, base_bounds, picture_bounds, font_bounds, shadow_bounds, window_bounds, alignment_bounds, own_checked}
-use Rattle.flat_records.specs.declared.bounds.BadWord.{BadWord}
+use Rattle.flat.specs.declared.words.BadWord.{BadWord}
 use Rattle.flat_records.proofs.Alike.{both_true}
 
 -- ---- a run of words

@@ -3,7 +3,7 @@ use Rattle.std.specs.Prelude.{ℕ, zero, suc, ◌+◌, Bool, true, ◌&&◌, con
 use Rattle.strip_records.specs.declared.kind.Kind.{Kind}
 use Rattle.strip_records.specs.declared.kind.Kind.TheVariants.{Pan1, Pic1, Txt1, Wnd1, Ali1}
 use Rattle.flat_records.specs.Records.{kind_of}
-use Rattle.flat_records.specs.declared.bounds.BadWord.{BadWord}
+use Rattle.flat.specs.declared.words.BadWord.{BadWord}
 
 -- what a test tells: all words are below their bounds, or the first that is not
 abbrev pub Checked : Type 0

@@ -1,5 +1,5 @@
 -- A record and its words.
-use Rattle.std.specs.Prelude.{ℕ, List, [], ◌∷◌, ◌++◌, get_or}
+use Rattle.std.specs.Prelude.{ℕ, cond, leb, Option, None, Some, List, [], ◌∷◌, ◌++◌, get_or}
 use Rattle.picture_fields.specs.Picture.{blank_picture}
 use Rattle.text_box_read.specs.TextBox.{blank_text_box}
 use Rattle.window_read.specs.Window.{blank_window}
@@ -25,6 +25,10 @@ kind_number Ali1 = 4
 
 abbrev pub kind_of : ℕ → Kind
 kind_of n = get_or (Pan1 ∷ Pic1 ∷ Txt1 ∷ Wnd1 ∷ []) n Ali1
+
+-- the kind that a number names
+abbrev pub kind_at : ℕ → Option Kind
+kind_at n = cond (leb 5 n) None (Some (kind_of n))
 
 -- what the kind has beyond the base
 unfoldable pub own_words : Kind → Record → List ℕ

@@ -1,15 +1,10 @@
 // The bounds that the words of a record stay below. Counts, label place and label length have none: a write does not read them.
 ghost use Rattle.std.specs.Prelude.{◌≡◌, ◌+◌, ◌≤◌, length, IsTrue, nat_le, position};
-ghost use Rattle.flat_records.specs.Below.{Checked, good, scanned, checked_by, base_bounds, own_checked, all_within};
+ghost use Rattle.flat_records.specs.Below.{good, scanned, checked_by, base_bounds, own_checked, all_within};
 
 use flat::layout;
+use flat::words::{BadWord, Words};
 use strip_records::kind::Kind;
-
-// The first word of a record that is not below its bound.
-#[derive(Clone, Copy, Debug, PartialEq, Eq)]
-pub struct BadWord {
-    pub index: usize,
-}
 
 // From a place on so many words, and what they stay below.
 pub type Bound = (usize, usize, u64);
@@ -68,21 +63,20 @@ fn first_not_below(words: &[u64], bound: u64) -> Option<usize>
 }
 
 // The first of so many words from a place on that is not below the bound.
-fn below(w: &[u64], from: usize, count: usize, bound: u64) -> Result<(), BadWord>
-    requires { from + count ≤ length w.now }
-    ensures { result ≡ scanned w.now from count bound }
+fn below(w: Words, from: usize, count: usize, bound: u64) -> Result<(), BadWord>
+    requires { from + count ≤ length w.words.now }
+    ensures { result ≡ scanned w.entry.words.now from count bound }
 {
-    match first_not_below(&w[from..from + count], bound) {
+    match first_not_below(&w.words[from..from + count], bound) {
         Some(i) => Err(BadWord { index: from + i }),
         None => Ok(()),
     }
 }
 
 // The first word that is not below its bound, in the order of the bounds.
-pub fn all_below(w: &[u64], bounds: &[Bound]) -> Result<(), BadWord>
-    requires long { 116 ≤ length w.now }
-    requires within { IsTrue (all_within bounds.now) }
-    ensures { result ≡ checked_by good bounds.now w.now }
+pub fn all_below(w: Words, bounds: &[Bound]) -> Result<(), BadWord>
+    requires { IsTrue (all_within bounds.now) }
+    ensures { result ≡ checked_by good bounds.now w.entry.words.now }
 {
     for (from, count, bound) in bounds {
         below(w, *from, *count, *bound)?;
@@ -91,9 +85,8 @@ pub fn all_below(w: &[u64], bounds: &[Bound]) -> Result<(), BadWord>
 }
 
 // The words of the base, then those of the kind.
-pub fn words_checked(w: &[u64], kind: Kind) -> Result<(), BadWord>
-    requires { 116 ≤ length w.now }
-    ensures { result ≡ own_checked kind (checked_by good base_bounds w.now) w.now }
+pub fn words_checked(w: Words, kind: Kind) -> Result<(), BadWord>
+    ensures { result ≡ own_checked kind (checked_by good base_bounds w.entry.words.now) w.entry.words.now }
 {
     all_below(w, &BASE)?;
     match kind {

@@ -9,7 +9,7 @@ use Rattle.text_box_read.specs.declared.FontMeasure.TheVariants as measure
 use Rattle.text_box_parts.specs.declared.Text.{Text}
 use Rattle.text_box_parts.specs.declared.Text.TheVariants as text
 use Rattle.text_box_read.specs.declared.TextBoxPane.{TextBoxPane}
-use Rattle.flat.specs.Words.{flag_word, color_words, byte_at, half_at, flag_at, float_at, vector2_at, quadruple_at}
+use Rattle.flat.specs.Words.{flag_word, color_words, option_words, byte_at, half_at, flag_at, float_at, vector2_at, quadruple_at}
 use Rattle.text_box_parts.specs.Parts.{Label, LineTable}
 
 -- TEXT_BUFFER_SIZE, TEXT_LENGTH, TEXT_MATERIAL, FONT, ORIGIN, TEXT_ALIGNMENT
@@ -78,8 +78,7 @@ label_words (Some span) = 1 ∷ span.place ∷ span.length ∷ []
 
 -- LINES_PRESENT, LINES_COUNT
 abbrev pub lines_words : LineTable → List ℕ
-lines_words None = 0 ∷ 0 ∷ []
-lines_words (Some count) = 1 ∷ count ∷ []
+lines_words x = option_words (λ count. count) x
 
 abbrev pub parts_words : TextBoxPane → List ℕ
 parts_words x = text_words x.shadow_italic_tilt x.text ++ (label_words x.label ++ lines_words x.line_table)

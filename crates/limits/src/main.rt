@@ -6,8 +6,10 @@ mod shown;
 
 use core_read::cursor::ByteOrder;
 use core_read::error::Refusal;
+use core_read::reader::Source;
 use std::io;
 use strip::kind::Kind;
+use strip::lists::{Content, Lists};
 use strip::read::Section;
 use strip::record::Record;
 
@@ -36,22 +38,20 @@ fn print_measured(rt: &impl Print, answer: Result<Section, Refusal>) -> io::Resu
 }
 
 // What the section at place 0 is read as, with lists that hold something else.
-fn read_back(rt: &impl Print, order: ByteOrder, data: &[u8]) -> io::Result<()> {
+fn read_back(rt: &impl Print, source: Source) -> io::Result<()> {
     let mut quads = [7u32; 2040];
     let mut units = [7u16; 32767];
     let mut lines = [7u32; 510];
     let mut frames = [7u16; 510];
-    let read = strip::read::read_section(
-        order,
-        data,
-        0,
-        &mut quads,
-        &mut units,
-        &mut lines,
-        &mut frames,
-    );
+    let mut lists = Lists {
+        quads: &mut quads,
+        units: &mut units,
+        lines: &mut lines,
+        frames: &mut frames,
+    };
+    let read = strip::read::read_section(source, 0, &mut lists);
     print_read(rt, read.answer, read.record)?;
-    let measured = strip::measure::measure_section(order, data, 0);
+    let measured = strip::measure::measure_section(source, 0);
     print_measured(rt, measured.answer)
 }
 
@@ -69,7 +69,8 @@ fn print_end(rt: &impl Print, order: ByteOrder, out: &[u8], end: usize) -> io::R
     print!(rt; " end {end}")?;
     print_size(rt, out)?;
     if end <= out.len() {
-        read_back(rt, order, &out[..end])?;
+        let data = &out[..end];
+        read_back(rt, Source { order, data })?;
     }
     Ok(())
 }
@@ -87,16 +88,6 @@ fn print_written(
 }
 
 // ---- a line: what it is, and a section
-
-// What is written with a record: its lists and its label.
-#[derive(Clone, Copy)]
-struct Content<'a> {
-    quads: &'a [u32],
-    units: &'a [u16],
-    lines: &'a [u32],
-    frames: &'a [u16],
-    label: &'a [u8],
-}
 
 const NOTHING: Content<'static> = Content {
     quads: &[],
@@ -119,16 +110,7 @@ impl<R: Print> Report<'_, R> {
         let rt = self.rt;
         let order = self.order;
         print!(rt; "{what}:")?;
-        let Content {
-            quads,
-            units,
-            lines,
-            frames,
-            label,
-        } = content;
-        let written = strip::write::write_section(
-            order, r, quads, units, lines, frames, label, out, 0,
-        );
+        let written = strip::write::write_section(order, r, content, out, 0);
         print_written(rt, order, out, written)?;
         println!(rt; "")
     }

@@ -3,6 +3,5 @@ pub mod Even
 pub mod Examples
 pub mod Hexadecimals
 pub mod Made
-pub mod Sized
 pub mod Spelled
 pub mod Within

@@ -4,16 +4,23 @@ use Rattle.core_read.specs.declared.cursor.ByteOrder.TheVariants.{Little}
 use Rattle.digits.specs.Digits.{even_line}
 use Rattle.digits.specs.declared.Line.{Line}
 use Rattle.strip_header.specs.declared.Section.TheVariants.{End, Passed, Pane}
+use Rattle.strip_records.specs.Held.{handed}
 use Rattle.strip_records.specs.Whole.{Whole}
+use Rattle.strip_records.specs.declared.lists.Content.{Content}
+use Rattle.strip_records.specs.declared.record.Record.{Record}
 use Rattle.strip_read.specs.Read.{read_section, lists_after}
 use Rattle.strip_read.specs.declared.read.SectionRead.{SectionRead}
 use Rattle.strip_write.specs.Write.{write_answer, write_output}
-use Rattle.strip.specs.Same.{read_whole}
+use Rattle.strip.specs.Same.{filled, read_whole}
 use Rattle.lines.specs.Answers.{ascii, refusal_text, section_text, bad_text}
 use Rattle.lines.specs.Answered.{full_lists}
 use Rattle.lines.specs.Hexadecimal.{hexadecimal}
 use Rattle.core_checks.specs.Checks.{Written}
 use Rattle.strip_header.specs.Header.{SectionAnswer}
+
+-- a record with as many numbers of each list that is handed with it as it counts
+abbrev pub counted : Record → Content → Whole
+counted r c = record { pane = r; lists = filled r (handed r c).lists; label = c.label.now }
 
 -- a space, and the output o up to the end of what was written, or the refusal of the write
 unfoldable pub written_text : Written → List ℕ → List ℕ

@@ -1,5 +1,6 @@
 -- Lines of hexadecimal digits, taken from what is read a chunk at a time.
-use Rattle.std.specs.Prelude.{ℕ, ◌+◌, Bool, cond, ◌&&◌, Option, Some, None, List, take, ltb, eqb}
+use Rattle.std.specs.Prelude.{ℕ, ◌+◌, Bool, cond, ◌&&◌, Some, None, is_some, List, take, drop, ltb, eqb}
+use Rattle.std.specs.Option.{option_map_or}
 use Rattle.digits.specs.Digits.{blank_line, has_begun, fed}
 use Rattle.digits.specs.declared.Fed.{Fed}
 use Rattle.digits.specs.declared.Line.{Line}
@@ -19,8 +20,8 @@ remains i = ltb i.at i.count
 -- those up to a line feed, at which the line ends, or up to the last
 unfoldable pub onward : List ℕ → Input → Input
 onward chunk i =
-    let f : Fed = fed (take i.count chunk) i.at i.line in
-    with_line f.line (ltb f.at i.count) (f.at + 1) i.count
+    let f : Fed = fed (drop i.at (take i.count chunk)) i.line in
+    with_line f.line (is_some f.feed) (option_map_or (λ k. i.at + k + 1) f.feed i.count) i.count
 
 -- none is left, and n more were read: 0 where the input ends, and with it a line that has begun
 unfoldable pub refilled : ℕ → Input → Input

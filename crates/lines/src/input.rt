@@ -8,6 +8,7 @@ use std::io;
 use std::io::Read;
 
 // The line that goes on, and the one that has ended, if one has; the place in the chunk that was read, and how many bytes it has: none once the input has ended.
+// The chunk is lent beside these places, and std's BufReader does not keep them: it takes memory, and the programs allocate nothing.
 #[derive(Clone, Copy)]
 pub struct Input {
     pub line: Line,
@@ -55,10 +56,12 @@ fn onward_in(chunk: &[u8], bytes: &mut [u8], input: Input) -> Input
 {
     let count = input.count;
     let line = input.line;
-    let fed = digits::feed(&chunk[..count], input.at, bytes, line);
-    let line = fed.line;
-    let at = fed.at;
-    with_line(line, at < count, at + 1, count)
+    let rest = &chunk[input.at..count];
+    let fed = digits::feed(rest, bytes, line);
+    match fed.feed {
+        Some(k) => with_line(fed.line, true, input.at + k + 1, count),
+        None => with_line(fed.line, false, count, count),
+    }
 }
 
 // More bytes, read into the chunk, and the read's error. A failed read counts as the end.

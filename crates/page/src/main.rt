@@ -16,9 +16,11 @@ ghost use Rattle.std.specs.Prelude.{IfOk, ◌^◌, ◌<◌};
 ghost use Rattle.io.specs.Counts.{IsPrefixLen};
 
 use core_read::cursor::ByteOrder;
-use core_read::error::Refusal;
+use core_read::reader::Source;
+use core_write::writer::Writer;
 use std::io;
 use std::io::Read;
+use strip::lists::Lists;
 use strip::read::SectionRead;
 use walk::Walk;
 
@@ -29,23 +31,23 @@ fn print_section(rt: &impl Print, data: &[u8], place: usize, read: SectionRead) 
     let record = read.record;
     let name = record.base.pane_name;
     let mut line = [0u8; 212];
-    let end = line::put_line(&mut line, 0, data, place, read.answer, record.kind, name);
+    let mut w = Writer::of_text(&mut line, 0);
+    line::put_line(&mut w, data, place, read.answer, record.kind, name);
+    let end = w.place;
     rt.write_all(&line[..end])
 }
 
 // A line for each section, until the walk stays where it is: at the end, or where a section is refused.
-fn print_page(
-    rt: &impl Print,
-    data: &[u8],
-    quads: &mut [u32],
-    units: &mut [u16],
-    lines: &mut [u32],
-    frames: &mut [u16],
-) -> io::Result<()> {
-    let mut walk = Walk::over(data, 0);
+fn print_page(rt: &impl Print, data: &[u8], lists: &mut Lists) -> io::Result<()> {
+    let source = Source {
+        order: ByteOrder::Little,
+        data,
+    };
+    let mut walk = Walk::over(source, 0);
+    // No `for`: the walk itself tells where it ends.
     loop {
         let place = walk.place;
-        let read = walk.next(ByteOrder::Little, quads, units, lines, frames);
+        let read = walk.next(lists);
         print_section(rt, data, place, read)?;
         if walk.place <= place {
             return Ok(());
@@ -59,7 +61,13 @@ fn page(rt: &impl Print, data: &[u8]) -> io::Result<()> {
     let mut units = [0u16; 32767];
     let mut lines = [0u32; 510];
     let mut frames = [0u16; 510];
-    print_page(rt, data, &mut quads, &mut units, &mut lines, &mut frames)
+    let mut lists = Lists {
+        quads: &mut quads,
+        units: &mut units,
+        lines: &mut lines,
+        frames: &mut frames,
+    };
+    print_page(rt, data, &mut lists)
 }
 
 // ---- standard input

@@ -19,7 +19,7 @@ use Rattle.pane_read.specs.Pane.{text24, text8, pane_taken, encode_head, encode_
 use Rattle.pane_checks.specs.Checks.{name_ill, texts_checked}
 use Rattle.pane_read.specs.Typed.{TypedPane}
 use Rattle.pane_read.specs.declared.Pane.{Pane}
-use Rattle.pane_read.specs.declared.PaneTaken.{PaneTaken}
+use Rattle.core_read.specs.Taken.{Taken}
 use Rattle.pane.proofs.Cleared.{Good, sound}
 use Rattle.std.specs.Prelude.{Ok}
 
@@ -73,7 +73,7 @@ length_pane order b h = rw (length-append, length_head order b h, length_transfo
 module _ {s : List ℕ} (c : Cursor) (order : ByteOrder) where
   -- THE PANE
   pane_from : (b : Pane) → TypedPane b → Good b → Holds s (c.pos + 0) (encode_pane order b)
-      → ◌≡◌ {A = PaneTaken} (pane_taken order s (Ok (advanced c 0))) (record { pane = read_back b; then = Ok (advanced c 76) })
+      → ◌≡◌ {A = Taken Pane} (pane_taken order s (Ok (advanced c 0))) (record { value = read_back b; then = Ok (advanced c 76) })
   unfolding encode_pane encode_head encode_transform pane_taken read_back
   pane_from b t g a =
       let (head, tail) = cut c 0 36 (encode_head order b) (encode_transform order b) (length_head order b (sound b g)) a in
@@ -104,7 +104,7 @@ module _ {s : List ℕ} (c : Cursor) (order : ByteOrder) where
       )
 
   pub pane_back : (b : Pane) → TypedPane b → Good b → Holds s c.pos (encode_pane order b)
-      → ◌≡◌ {A = PaneTaken} (pane_taken order s (Ok c)) (record { pane = read_back b; then = Ok (advanced c 76) })
+      → ◌≡◌ {A = Taken Pane} (pane_taken order s (Ok c)) (record { value = read_back b; then = Ok (advanced c 76) })
   pane_back b t g a =
       let h : Holds s (c.pos + 0) (encode_pane order b) = rw (add-zero c.pos) a in
       rw (advanced_zero c) at (pane_from b t g h)

@@ -6,25 +6,25 @@ use Rattle.core_read.specs.declared.cursor.ByteOrder.{ByteOrder}
 use Rattle.pane_read.specs.Pane.{pane_taken, blank_pane, encode_pane}
 use Rattle.pane_checks.specs.Checks.{texts_checked, names_checked, reserve_checked}
 use Rattle.pane_read.specs.declared.Pane.{Pane}
-use Rattle.pane_read.specs.declared.PaneTaken.{PaneTaken}
-use Rattle.pane.specs.declared.body.PaneParsed.{PaneParsed}
+use Rattle.core_read.specs.Taken.{Taken}
+use Rattle.pane_read.specs.declared.parsed.Parsed.{Parsed}
 use Rattle.core_read.specs.Taken.{Place}
 
 -- what is measured from a place p of the run, of a body at B: the fields with 4, then 7 and, in a section, 19
-unfoldable pub pane_measured : ByteOrder → List ℕ → Place → ℕ → Extent → PaneTaken
+unfoldable pub pane_measured : ByteOrder → List ℕ → Place → ℕ → Extent → Taken Pane
 pane_measured order s p body extent =
-    let t : PaneTaken = pane_taken order s p in
-    record { pane = t.pane; then = reach_checked (texts_checked t.then t.pane body) extent }
+    let t : Taken Pane = pane_taken order s p in
+    record { value = t.value; then = reach_checked (texts_checked t.then t.value body) extent }
 
 -- what a read gives of it, blank where the run was refused
-unfoldable pub pane_given : PaneTaken → PaneParsed
-pane_given m = record { answer = m.then; pane = unless_refused m.then blank_pane m.pane }
+unfoldable pub pane_given : Taken Pane → Parsed (Unit {0})
+pane_given m = record { answer = m.then; base = unless_refused m.then blank_pane m.value; own = tt }
 
-unfoldable pub pane_read : ByteOrder → List ℕ → Place → ℕ → Extent → PaneParsed
+unfoldable pub pane_read : ByteOrder → List ℕ → Place → ℕ → Extent → Parsed (Unit {0})
 pane_read order s p body extent = pane_given (pane_measured order s p body extent)
 
 -- THE BODY READ at B of s: 1, 2, and then so, in all of the buffer
-unfoldable pub pane_parsed : ByteOrder → List ℕ → ℕ → PaneParsed
+unfoldable pub pane_parsed : ByteOrder → List ℕ → ℕ → Parsed (Unit {0})
 pane_parsed order s body = pane_read order s (body_start (length s) body) body None
 
 -- 1, 2, 9, 10 and 16 of a write into n bytes

@@ -3,10 +3,9 @@ ghost use Rattle.std.specs.Prelude.{◌≡◌, ◌^◌, ◌<◌, length, take};
 ghost use Rattle.core_checks.specs.Answered.{Lets};
 ghost use Rattle.pane_checks.specs.Checks.{name_ill, name_bad, names_checked, reserve_checked, texts_checked};
 
-use core_read::cursor::Place;
-use core_read::error::Refusal;
+use core_read::error::{CheckedText, Refusal};
+use core_read::text;
 use core_read::text::FixedString;
-use core_read::{cursor, text};
 use pane_read::Pane;
 
 // The counted bytes of a name.
@@ -61,10 +60,14 @@ pub fn names_checked(b: Pane) -> Result<(), Refusal>
     ensures { Lets result (λ p. names_checked p b) }
 {
     if string_bad(b.pane_name) {
-        return Err(Refusal::BadName { which: 1 });
+        return Err(Refusal::BadName {
+            which: CheckedText::PaneName,
+        });
     }
     if string_bad(b.user_name) {
-        return Err(Refusal::BadName { which: 2 });
+        return Err(Refusal::BadName {
+            which: CheckedText::UserName,
+        });
     }
     Ok(())
 }
@@ -84,26 +87,22 @@ pub fn reserve_checked(b: Pane) -> Result<(), Refusal>
 }
 
 // 7 for the pane name, then for the user name, of a pane that was read at a place.
-pub fn texts_checked(p: Place, b: Pane, body: usize) -> Place
+#[tactic(auto, unfolding(crate::specs::Checks::texts_checked, core_read::specs::Taken::stop_if))]
+pub fn texts_checked(b: Pane, body: usize) -> Result<(), Refusal>
     requires { body < 2 ^ 32 }
-    ensures { result ≡ texts_checked p b body }
+    ensures { Lets result (λ p. texts_checked p b body) }
 {
-    let ill = string_ill(b.pane_name);
-    let user_ill = string_ill(b.user_name);
-    let p = cursor::stop_if(
-        p,
-        ill,
-        Refusal::IllFormedUtf8 {
+    if string_ill(b.pane_name) {
+        return Err(Refusal::IllFormedUtf8 {
             place: body + 4,
-            which: 1,
-        },
-    );
-    cursor::stop_if(
-        p,
-        user_ill,
-        Refusal::IllFormedUtf8 {
+            which: CheckedText::PaneName,
+        });
+    }
+    if string_ill(b.user_name) {
+        return Err(Refusal::IllFormedUtf8 {
             place: body + 28,
-            which: 2,
-        },
-    )
+            which: CheckedText::UserName,
+        });
+    }
+    Ok(())
 }

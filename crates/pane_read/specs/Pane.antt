@@ -2,7 +2,7 @@
 use Rattle.std.specs.Prelude.{ℕ, ◌≤◌, List, ◌++◌, take, replicate}
 use Rattle.core_read.specs.Bytes.{bytes_of, fixed}
 use Rattle.core_read.specs.Taken.{u8_taken, fixed_string_taken, Place}
-use Rattle.core_read.specs.declared.cursor.Taken.{Taken}
+use Rattle.core_read.specs.Taken.{Taken}
 use Rattle.core_read.specs.declared.cursor.ByteOrder.{ByteOrder}
 use Rattle.core_read.specs.declared.text.FixedString.{FixedString}
 use Rattle.flags.specs.Fields.{position_of, pane_flags_of, flag_ex_of, position_number, pane_flags_number, flag_ex_number}
@@ -11,7 +11,6 @@ use Rattle.ui2d.specs.Parts.{vector2_taken, vector3_taken, encode_vector2, encod
 use Rattle.ui2d.specs.declared.Vector2f.{Vector2f}
 use Rattle.ui2d.specs.declared.Vector3f.{Vector3f}
 use Rattle.pane_read.specs.declared.Pane.{Pane}
-use Rattle.pane_read.specs.declared.PaneTaken.{PaneTaken}
 
 -- a name is its counted bytes
 abbrev pub text24 : FixedString 24 → List ℕ
@@ -23,7 +22,7 @@ text8 n = take n.count n.bytes
 -- ---- reading
 
 -- flags, position, alpha, flag_ex, name 24, user name 8, translation 3 floats, rotation 3, scale 2, size 2
-unfoldable pub pane_taken : ByteOrder → List ℕ → Place → PaneTaken
+unfoldable pub pane_taken : ByteOrder → List ℕ → Place → Taken Pane
 pane_taken order s p =
     let flags : Taken ℕ = u8_taken order s p in
     let position : Taken ℕ = u8_taken order s flags.then in
@@ -36,7 +35,7 @@ pane_taken order s p =
     let scale : Taken Vector2f = vector2_taken order s rotation.then in
     let size : Taken Vector2f = vector2_taken order s scale.then in
     record {
-      pane = record {
+      value = record {
         pane_flags = pane_flags_of flags.value;
         position = position_of position.value;
         alpha = alpha.value;

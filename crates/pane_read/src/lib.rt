@@ -1,19 +1,19 @@
 // The base pane, with which every kind begins: 76 bytes, and how they are read.
 #![tactic(auto)]
 
-ghost use Rattle.std.specs.Prelude.{◌≡◌, ◌+◌, ◌<◌, length};
-ghost use Rattle.core_read.specs.Bytes.{Room};
-ghost use Rattle.core_read.specs.Taken.{start};
+pub mod parsed;
+
+ghost use Rattle.std.specs.Prelude.{◌≡◌, ◌<◌, length};
 ghost use Rattle.pane_read.specs.Pane.{pane_taken, blank_pane};
 ghost use Rattle.pane_read.specs.Typed.{TypedPane};
 
-use core_read::cursor::{ByteOrder, Place};
+use core_read::error::Refusal;
+use core_read::reader::{Field, Reader, Source};
 use core_read::text::FixedString;
-use core_read::{cursor, text};
 use flags::pane::{PaneFlags, PaneFlagsEx};
 use flags::position::BflytPosition;
 use floats::Binary32;
-use ui2d::{Vector2f, Vector3f, fixed};
+use ui2d::{Vector2f, Vector3f};
 
 #[derive(Clone, Copy)]
 pub struct Pane {
@@ -29,110 +29,58 @@ pub struct Pane {
     pub size: Vector2f,
 }
 
-#[derive(Clone, Copy)]
-pub struct PaneTaken {
-    pub pane: Pane,
-    pub then: Place,
-}
-
 // ---- reading
 
-// Field by field. Where the run is refused the fields that were not reached are those of no bytes.
-fn take_fields(order: ByteOrder, data: &[u8], p: Place) -> PaneTaken
-    ensures { result ≡ pane_taken order «data».now p }
-{
-    let flags = cursor::take_u8(order, data, p);
-    let p1 = flags.then;
-    let position = cursor::take_u8(order, data, p1);
-    let p2 = position.then;
-    let alpha = cursor::take_u8(order, data, p2);
-    let p3 = alpha.then;
-    let ex = cursor::take_u8(order, data, p3);
-    let p4 = ex.then;
-    let name = text::take_fixed_string(data, p4);
-    let p5 = name.then;
-    let user = text::take_fixed_string(data, p5);
-    let p6 = user.then;
-    let translation = ui2d::take_vector3(order, data, p6);
-    let p7 = translation.then;
-    let rotation = ui2d::take_vector3(order, data, p7);
-    let p8 = rotation.then;
-    let scale = ui2d::take_vector2(order, data, p8);
-    let p9 = scale.then;
-    let size = ui2d::take_vector2(order, data, p9);
-    let pane_name = name.value;
-    let user_name = user.value;
-    let translation_value = translation.value;
-    let rotation_value = rotation.value;
-    let scale_value = scale.value;
-    let size_value = size.value;
-    let then = size.then;
-    let pane = Pane {
-        pane_flags: PaneFlags::from(flags.value),
-        position: BflytPosition::from(position.value),
-        alpha: alpha.value,
-        flag_ex: PaneFlagsEx::from(ex.value),
-        pane_name,
-        user_name,
-        translation: translation_value,
-        rotation: rotation_value,
-        scale: scale_value,
-        size: size_value,
-    };
-    PaneTaken { pane, then }
-}
+impl Field for Pane {
+    ghost taken = { pane_taken };
 
-// The pane of the 76 bytes at a place.
-fn pane_at(order: ByteOrder, data: &[u8], at: usize) -> Pane
-    requires { Room «data».now at 76 }
-    ensures { result ≡ (pane_taken order «data».now (Ok (start at))).pane }
-{
-    let flags = data[at];
-    let position = data[at + 1];
-    let alpha = data[at + 2];
-    let ex = data[at + 3];
-    let pane_name = text::fixed_string_at(data, at + 4);
-    let user_name = text::fixed_string_at(data, at + 28);
-    let translation = fixed::vector3_at(order, data, at + 36);
-    let rotation = fixed::vector3_at(order, data, at + 48);
-    let scale = fixed::vector2_at(order, data, at + 60);
-    let size = fixed::vector2_at(order, data, at + 68);
-    Pane {
-        pane_flags: PaneFlags::from(flags),
-        position: BflytPosition::from(position),
-        alpha,
-        flag_ex: PaneFlagsEx::from(ex),
-        pane_name,
-        user_name,
-        translation,
-        rotation,
-        scale,
-        size,
+    const WIDTH: usize = 76;
+
+    ghost WIDTH = { 76 };
+
+    #[tactic(auto, unfolding(crate::specs::Pane::pane_taken, ui2d::specs::Parts::vector2_taken, ui2d::specs::Parts::vector3_taken, core_read::specs::Taken::fixed_string_taken, core_read::specs::Taken::string_taken, core_read::specs::Taken::number_taken))]
+    fn fields<'a, 's>(r: &'s mut Reader<'a>) -> Result<Pane, Refusal> {
+        let pane_flags = PaneFlags::from(r.number::<u8>()?);
+        let position = BflytPosition::from(r.number::<u8>()?);
+        let alpha = r.number::<u8>()?;
+        let flag_ex = PaneFlagsEx::from(r.number::<u8>()?);
+        let pane_name = r.take::<FixedString<24>>()?;
+        let user_name = r.take::<FixedString<8>>()?;
+        let translation = r.take::<Vector3f>()?;
+        let rotation = r.take::<Vector3f>()?;
+        let scale = r.take::<Vector2f>()?;
+        let size = r.take::<Vector2f>()?;
+        Ok(Pane {
+            pane_flags,
+            position,
+            alpha,
+            flag_ex,
+            pane_name,
+            user_name,
+            translation,
+            rotation,
+            scale,
+            size,
+        })
     }
-}
 
-// One test where all 76 bytes are there.
-pub fn take_pane(order: ByteOrder, data: &[u8], p: Place) -> PaneTaken
-    ensures { result ≡ pane_taken order «data».now p }
-{
-    match p {
-        Ok(c) => {
-            let at = c.pos;
-            if at < data.len() {
-                if 76 <= data.len() - at {
-                    let pane = pane_at(order, data, at);
-                    return PaneTaken {
-                        pane,
-                        then: Ok(c.advanced(76)),
-                    };
-                }
-            }
-            take_fields(order, data, Ok(c))
+    fn at<'a>(source: Source<'a>, at: usize) -> Pane {
+        Pane {
+            pane_flags: PaneFlags::from(source.number_at::<u8>(at)),
+            position: BflytPosition::from(source.number_at::<u8>(at + 1)),
+            alpha: source.number_at(at + 2),
+            flag_ex: PaneFlagsEx::from(source.number_at::<u8>(at + 3)),
+            pane_name: FixedString::at(source, at + 4),
+            user_name: FixedString::at(source, at + 28),
+            translation: Vector3f::at(source, at + 36),
+            rotation: Vector3f::at(source, at + 48),
+            scale: Vector2f::at(source, at + 60),
+            size: Vector2f::at(source, at + 68),
         }
-        Err(why) => take_fields(order, data, Err(why)),
     }
 }
 
+#[tactic(auto, unfolding(crate::specs::Pane::blank_pane))]
 fn zero2() -> Vector2f
     ensures { result ≡ blank_pane.scale }
 {
@@ -142,6 +90,7 @@ fn zero2() -> Vector2f
     }
 }
 
+#[tactic(auto, unfolding(crate::specs::Pane::blank_pane))]
 fn zero3() -> Vector3f
     ensures { result ≡ blank_pane.translation }
 {
@@ -153,13 +102,10 @@ fn zero3() -> Vector3f
 }
 
 // The pane of no bytes: numbers 0, first cases, false.
+#[tactic(auto, unfolding(crate::specs::Pane::blank_pane))]
 pub fn blank_pane() -> Pane
     ensures { result ≡ blank_pane }
 {
-    let translation = zero3();
-    let rotation = zero3();
-    let scale = zero2();
-    let size = zero2();
     Pane {
         pane_flags: PaneFlags::from(0),
         position: BflytPosition::from(0),
@@ -173,10 +119,10 @@ pub fn blank_pane() -> Pane
             bytes: [0u8; 8],
             count: 0,
         },
-        translation,
-        rotation,
-        scale,
-        size,
+        translation: zero3(),
+        rotation: zero3(),
+        scale: zero2(),
+        size: zero2(),
     }
 }
 

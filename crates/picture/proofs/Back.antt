@@ -8,7 +8,7 @@ use lib.ListN.{length, length-append}
 use Rattle.ui2d.proofs.QuadRuns.{count_fit, eight}
 use Rattle.core_read.specs.Bytes.{bytes_of, bytes_of_all}
 use Rattle.core_read.specs.Taken.{advanced}
-use Rattle.core_read.specs.declared.cursor.Taken.{Taken}
+use Rattle.core_read.specs.Taken.{Taken}
 use Rattle.core_read.specs.Lists.{numbers_taken}
 use Rattle.core_read.specs.declared.cursor.ByteOrder.{ByteOrder}
 use Rattle.core_read.specs.declared.cursor.Cursor.{Cursor}
@@ -25,7 +25,7 @@ use Rattle.picture.specs.Body.{encode_body, body_length}
 use Rattle.picture_fields.specs.Same.{SamePicture}
 use Rattle.picture_fields.specs.Typed.{TypedShape, TypedPicture}
 use Rattle.picture_fields.specs.declared.PicturePane.{PicturePane}
-use Rattle.picture_fields.specs.declared.PictureTaken.{PictureTaken}
+use Rattle.picture_fields.specs.declared.PictureFound.{PictureFound}
 use Rattle.std.specs.Prelude.{None, Ok, Some}
 
 -- what reading a picture that was written gives: the same, with the count of its quads
@@ -90,8 +90,8 @@ module _ {s : List ℕ} (c : Cursor) (order : ByteOrder) where
       record { colors = a₁; material = a₂; count = a₃; byte = a₄; quads = a₅; shape = a₆ }
 
   picture_from : (x : PicturePane) (quads : List ℕ) → TypedPicture x → GoodPicture quads → Fit 4 quads → Holds s (c.pos + 0) (encode_picture order x quads)
-      → ◌≡◌ {A = PictureTaken} (picture_taken order s (Ok (advanced c 0)))
-      (record { picture = read_back_picture x quads; quads = Ok (advanced c 20); then = Ok (advanced c (picture_length x quads)) })
+      → ◌≡◌ {A = Taken PictureFound} (picture_taken order s (Ok (advanced c 0)))
+      (record { value = record { picture = read_back_picture x quads; quads = advanced c 20 }; then = Ok (advanced c (picture_length x quads)) })
   unfolding picture_taken read_back_picture picture_length
   picture_from x quads t g f a =
       let shape : ShapeIndex = x.shape_info_array_index in
@@ -108,8 +108,8 @@ module _ {s : List ℕ} (c : Cursor) (order : ByteOrder) where
 
   -- THE PICTURE
   pub picture_back : (x : PicturePane) (quads : List ℕ) → TypedPicture x → GoodPicture quads → Fit 4 quads → Holds s c.pos (encode_picture order x quads)
-      → ◌≡◌ {A = PictureTaken} (picture_taken order s (Ok c))
-      (record { picture = read_back_picture x quads; quads = Ok (advanced c 20); then = Ok (advanced c (picture_length x quads)) })
+      → ◌≡◌ {A = Taken PictureFound} (picture_taken order s (Ok c))
+      (record { value = record { picture = read_back_picture x quads; quads = advanced c 20 }; then = Ok (advanced c (picture_length x quads)) })
   picture_back x quads t g f a =
       let h : Holds s (c.pos + 0) (encode_picture order x quads) = rw (add-zero c.pos) a in
       rw (advanced_zero c) at (picture_from x quads t g f h)
@@ -120,7 +120,7 @@ module _ {s : List ℕ} (c : Cursor) (order : ByteOrder) where
   unfolding picture_quads quads_of read_back_picture
   quads_back x quads t g f a =
       let h : Holds s (c.pos + 0) (encode_picture order x quads) = rw (add-zero c.pos) a in
-      ap (quads_of order s) (picture_back x quads t g f a)
+      ap (λ (u : Taken PictureFound). quads_of order s u.value) (picture_back x quads t g f a)
       ∙ ap (λ (n : ℕ). (numbers_taken order 4 n s (Ok (advanced c 20))).value) (eight (length quads) g.whole)
       ∙ ap (λ (u : Taken (List ℕ)). u.value) (numbers_at_lem 20 quads f (parts x quads t h).quads)
 

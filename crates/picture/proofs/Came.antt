@@ -1,4 +1,5 @@
 -- What a run that came through tells: where it began, and that the bytes it read are there.
+use Rattle.core_read.specs.Taken.{cursor_of}
 use mathlib.Core.Path.{◌≡◌, refl, sym, ap, ◌∙◌}
 use mathlib.Core.Bool.{Bool, true, false, cond}
 use mathlib.Core.List.{List}
@@ -6,10 +7,10 @@ use Prim.Native.Nat.{ℕ, zero, suc, ◌+◌, ◌*◌, ◌≤◌}
 use native.Mathlib.Nat.{mul-suc, mul-zero}
 use native.Mathlib.Omega.{arith}
 use lib.ListN.{length}
-use lib.Dec.{leb, eqb}
+use lib.Dec.{leb}
 use borrow.Author.Tests.{leb-true}
-use Rattle.core_read.specs.Taken.{start, advanced, number_taken, Place}
-use Rattle.core_read.specs.declared.cursor.Taken.{Taken}
+use Rattle.core_read.specs.Taken.{advanced, number_taken, Place}
+use Rattle.core_read.specs.Taken.{Taken}
 use Rattle.core_read.specs.Lists.{numbers_taken}
 use Rattle.core_read.specs.declared.error.Refusal.{Refusal}
 use Rattle.core_read.specs.declared.cursor.ByteOrder.{ByteOrder}
@@ -17,19 +18,15 @@ use Rattle.core_read.specs.declared.cursor.Cursor.{Cursor}
 use Rattle.core_read.proofs.Cursors.{pos_advanced}
 use Rattle.core_read.proofs.Lists.{number_here, numbers_stay}
 use Rattle.ui2d.specs.Parts.{colors_taken, color_taken}
-use Rattle.picture_fields.specs.Picture.{shape_taken, picture_taken, quads_of, Measured, ShapeIndex}
-use Rattle.picture_fields.specs.declared.PictureTaken.{PictureTaken}
+use Rattle.picture_fields.specs.Picture.{shape_taken, picture_taken, quads_of, Measured}
+use Rattle.picture_fields.proofs.Run.{shape_stays}
+use Rattle.picture_fields.specs.declared.PictureFound.{PictureFound}
 use Rattle.std.specs.Prelude.{Err, Ok}
 
 -- ---- any run
 
 never : (why : Refusal) (d : Cursor) → Err why ≡ Ok d → ⊥
 never why d e = let z : ◌≡◌ {A = ℕ} 0 1 = cc in omega arith
-
--- the cursor of a place that has one
-abbrev pub cursor_of : Place → Cursor
-cursor_of (Ok c) = c
-cursor_of (Err why) = start 0
 
 -- a step that a refusal passes: where it ends at a cursor it began at one
 pub from_at : (step : Place → Place) → ((why : Refusal) → step (Err why) ≡ Err why) → (p : Place) (d : Cursor) → step p ≡ Ok d → p ≡ Ok (cursor_of p)
@@ -77,19 +74,11 @@ module _ (order : ByteOrder) (w : ℕ) (s : List ℕ) where
 
 -- ---- a picture
 
-pub length_quads : (order : ByteOrder) (s : List ℕ) (t : PictureTaken) → length (quads_of order s t) ≡ 8 * t.picture.quad_count
+pub length_quads : (order : ByteOrder) (s : List ℕ) (t : PictureFound) → length (quads_of order s t) ≡ 8 * t.picture.quad_count
 unfolding quads_of
-length_quads order s t = length_taken order 4 s (8 * t.picture.quad_count) t.quads
+length_quads order s t = length_taken order 4 s (8 * t.picture.quad_count) (Ok t.quads)
 
 -- a refused run stays so
-shape_test : (t : Bool) (a b : Taken ShapeIndex) (p : Place) → a.then ≡ p → b.then ≡ p → (cond t a b).then ≡ p
-shape_test true a b p e f = e
-shape_test false a b p e f = f
-
-pub shape_stays : (order : ByteOrder) (s : List ℕ) (byte : ℕ) (why : Refusal) → (shape_taken order s (Err why) byte).then ≡ Err why
-unfolding shape_taken number_taken
-shape_stays order s byte why = shape_test (eqb byte 0) _ _ (Err why) refl refl
-
 pub picture_stays : (order : ByteOrder) (s : List ℕ) (why : Refusal) → (picture_taken order s (Err why)).then ≡ Err why
 unfolding picture_taken colors_taken color_taken number_taken numbers_taken shape_taken
 picture_stays order s why = refl
@@ -109,9 +98,9 @@ module _ (order : ByteOrder) (s : List ℕ) (before : Place) (byte k : ℕ) (d :
 
 -- a read that came through has its quads there
 pub came_through : (order : ByteOrder) (s : List ℕ) (p : Place) (d : Cursor) (n : ℕ) → (picture_taken order s p).then ≡ Ok d
-    → 2040 ≤ n → Measured s (picture_taken order s p) n
+    → 2040 ≤ n → Measured s (picture_taken order s p).value n
 unfolding picture_taken
 came_through order s p d n e room =
-    let t : PictureTaken = picture_taken order s p in
+    let t : PictureFound = (picture_taken order s p).value in
     let (h, f) = numbers_came order s _ _ (8 * t.picture.quad_count) d e in
-    record { from = cursor_of t.quads; here = h; there = omega (arith, f); room = room }
+    record { there = omega (arith, f); room = room }

@@ -1,14 +1,11 @@
 -- What the checks of a write tell.
-use mathlib.Core.Path.{◌≡◌, sym, ◌∙◌}
-use Prim.Native.Nat.{ℕ, ◌+◌, ◌^◌, ◌≤◌, ◌<◌}
+use mathlib.Core.Path.{◌≡◌}
+use Prim.Native.Nat.{ℕ, ◌+◌, ◌≤◌}
 use native.Mathlib.Omega.{arith}
 use mathlib.Core.List.{List}
 use lib.ListN.{length}
-use Rattle.core_checks.specs.Checks.{body_start, end_checked}
-use Rattle.core_read.specs.declared.error.Refusal.{Refusal}
 use Rattle.core_read.specs.declared.cursor.Cursor.{Cursor}
-use Rattle.core_checks.proofs.Checked.{BodyOk, body_started, count_cleared, end_cleared, end_stays}
-use Rattle.pane_checks.specs.Checks.{names_checked, reserve_checked}
+use Rattle.core_checks.proofs.Checked.{BodyOk, body_started, count_cleared, end_cleared}
 use Rattle.pane_read.specs.declared.Pane.{Pane}
 use Rattle.pane.proofs.Cleared.{Good, base_cleared}
 use Rattle.picture_fields.specs.Picture.{picture_checked, GoodPicture, picture_length}
@@ -16,12 +13,12 @@ use Rattle.picture.specs.Body.{body_length, picture_write_checked}
 use Rattle.picture_fields.specs.declared.PicturePane.{PicturePane}
 use Rattle.picture_fields.proofs.Run.{shape_short}
 use Rattle.core_read.specs.Taken.{start, Place}
-use Rattle.std.specs.Prelude.{Err, Ok}
+use Rattle.std.specs.Prelude.{Ok}
 
 -- check 11
 pub picture_cleared : (p : Place) (quads : List ℕ) (c : Cursor) → picture_checked p quads ≡ Ok c → (p ≡ Ok c) × GoodPicture quads
 unfolding picture_checked
-picture_cleared p quads c e = let (h, w, f) = count_cleared p 1 8 (length quads) c e in (h, record { whole = w; few = f })
+picture_cleared p quads c e = let (h, w, f) = count_cleared p _ 8 (length quads) c e in (h, record { whole = w; few = f })
 
 pub picture_let : (quads : List ℕ) → ((c : Cursor) → picture_checked (Ok c) quads ≡ Ok c) → GoodPicture quads
 picture_let quads h = (picture_cleared _ quads (start 0) (h (start 0))).1

@@ -31,7 +31,7 @@ part_of_quad = refl
 abbrev shaped : List ℕ
 shaped = replicate 18 0 ++ (0 ∷ 7 ∷ 2 ∷ 1 ∷ 0 ∷ 0 ∷ [])
 
-index_read : (picture_taken Little shaped (Ok (start 0))).picture.shape_info_array_index ≡ Some 258
+index_read : (picture_taken Little shaped (Ok (start 0))).value.picture.shape_info_array_index ≡ Some 258
 unfolding picture_taken colors_taken color_taken number_taken numbers_taken shape_taken number_at spelled part start advanced
 index_read = refl
 

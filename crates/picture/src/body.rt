@@ -1,142 +1,106 @@
 // The body calls of a picture pane: any bytes are read or refused, any pane with its quads is written or refused.
-ghost use Rattle.std.specs.Prelude.{◌≡◌, ◌^◌, ◌<◌, ◌≤◌, length};
+ghost use Rattle.std.specs.Prelude.{◌≡◌, ◌^◌, ◌<◌, ◌≤◌, length, Ok};
 ghost use Rattle.core_checks.specs.Answered.{Clears};
 ghost use Rattle.core_checks.specs.Checks.{parsed_by_number, written_by_number};
-ghost use Rattle.core_read.specs.Bytes.{Room, Put};
+ghost use Rattle.core_read.specs.Steps.{Took};
+ghost use Rattle.core_read.specs.Taken.{over};
+ghost use Rattle.core_write.specs.Puts.{HasRoom, Puts};
 ghost use Rattle.pane_read.specs.Pane.{Sound};
-ghost use Rattle.picture_fields.specs.Picture.{Measured, GoodPicture};
-ghost use Rattle.picture.specs.Body.{Blank, picture_measured, picture_given, quads_filled, picture_read, quads_read, picture_start, picture_parsed, quads_parsed, body_length, encode_body, picture_write_checked, picture_written, picture_output};
+ghost use Rattle.picture_fields.specs.Picture.{Measured as QuadsMeasured, GoodPicture, quads_of};
+ghost use Rattle.picture.specs.Body.{picture_measured, picture_read, quads_read, picture_start, picture_parsed, quads_parsed, body_length, encode_body, picture_write_checked, picture_written, picture_output};
 
 use core_checks::checks;
-use core_read::cursor::{ByteOrder, Cursor, Place};
-use core_read::error::Refusal;
+use core_read::cursor::{ByteOrder, Place};
+use core_read::error::{NumberList, Refusal};
+use core_read::reader::{Reader, Source};
+use core_write::writer::Writer;
 use pane_checks::checks::{names_checked, reserve_checked, texts_checked};
 use pane_read::Pane;
-use picture_fields::{PicturePane, PictureTaken};
-
-// A pane that was measured, where its quads stand among what it has of its own, and where the run stands then.
-#[derive(Clone, Copy)]
-pub struct PictureMeasured {
-    pub base: Pane,
-    pub own: PictureTaken,
-    pub then: Place,
-}
-
-// What a body read gives: its answer, and the pane, blank where it was refused.
-#[derive(Clone, Copy)]
-pub struct PictureParsed {
-    pub answer: Result<Cursor, Refusal>,
-    pub base: Pane,
-    pub picture: PicturePane,
-}
-
-fn refused(why: Refusal) -> PictureParsed
-    ensures { Blank why result }
-{
-    PictureParsed {
-        answer: Err(why),
-        base: pane_read::blank_pane(),
-        picture: picture_fields::blank_picture(),
-    }
-}
+use pane_read::parsed::{Measured, Parsed};
+use picture_fields::{PictureFound, PicturePane};
 
 // All reads, check 7 and, in a section, check 19.
-pub fn measure(
-    order: ByteOrder,
-    data: &[u8],
-    p: Place,
+#[tactic(auto, using(core_checks::proofs::Checked::reach_stays, crate::proofs::Came::picture_stays), unfolding(crate::specs::Body::picture_measured, pane_checks::specs::Checks::texts_checked, core_read::specs::Taken::stop_if))]
+pub fn measure<'a, 's>(
+    r: &'s mut Reader<'a>,
     place: usize,
     extent: Option<usize>,
-) -> PictureMeasured
+) -> Result<Measured<PictureFound>, Refusal>
     requires { place < 2 ^ 32 }
-    ensures { result ≡ picture_measured order «data».now p place extent }
+    ensures { Took r.old r.new result (λ order s p. picture_measured order s p place extent) }
 {
-    let taken = pane_read::take_pane(order, data, p);
-    let base = taken.pane;
-    let p1 = taken.then;
-    let own = picture_fields::measure_picture(order, data, p1);
-    let p2 = own.then;
-    let p3 = texts_checked(p2, base, place);
-    let then = checks::reach_checked(p3, extent);
-    PictureMeasured { base, own, then }
+    let base = r.take::<Pane>()?;
+    let own = picture_fields::measure_picture(r)?;
+    texts_checked(base, place)?;
+    checks::reach_checked(r.cursor, extent)?;
+    Ok(Measured { base, own })
 }
 
-// The quads of a pane that was measured and not refused.
-pub fn fill(order: ByteOrder, data: &[u8], m: PictureMeasured, quads: &mut [u32])
-    requires { (c : Cursor) → m.then ≡ Ok c → Measured «data».now m.own (length quads.old) }
-    ensures { quads.new ≡ quads_filled order «data».now m quads.old }
+// The quads of a pane that was measured.
+pub fn fill<'a>(source: Source<'a>, m: Measured<PictureFound>, quads: &mut [u32])
+    requires { QuadsMeasured source.«data».now m.own (length quads.old) }
+    ensures { quads.new ≡ over (quads_of source.entry.order source.entry.«data».now m.own) quads.old }
 {
-    let then = m.then;
-    match then {
-        Ok(_) => {
-            let own = m.own;
-            picture_fields::fill_picture(order, data, own, quads);
-        }
-        Err(_) => {}
+    picture_fields::fill_picture(source, m.own, quads);
+}
+
+// The read in a buffer or in a section, its quads only passed.
+#[tactic(auto, unfolding(crate::specs::Body::picture_read, crate::specs::Body::picture_given, core_checks::specs::Checks::unless_refused))]
+pub fn measured<'a>(mut r: Reader<'a>, place: usize, extent: Option<usize>) -> Parsed<PicturePane>
+    requires { place < 2 ^ 32 }
+    ensures { result ≡ picture_read r.entry.source.order r.entry.source.«data».now (Ok r.entry.cursor) place extent }
+{
+    match measure(&mut r, place, extent) {
+        Ok(m) => Parsed::accepted(r.cursor, m.base, m.own.picture),
+        Err(why) => Parsed::refused(why),
     }
 }
 
-// What a read gives of what was measured.
-pub fn given(m: PictureMeasured) -> PictureParsed
-    ensures { result ≡ picture_given m }
-{
-    let base = m.base;
-    let own = m.own;
-    let picture = own.picture;
-    let then = m.then;
-    match then {
-        Ok(c) => {
-            let answer = Ok(c);
-            PictureParsed {
-                answer,
-                base,
-                picture,
-            }
-        }
-        Err(why) => refused(why),
-    }
-}
-
-// The read in a buffer or in a section: measured, filled and given.
-pub fn read(
-    order: ByteOrder,
-    data: &[u8],
-    p: Place,
+// The same, with the quads at the front of the list where nothing was refused.
+#[tactic(auto, unfolding(crate::specs::Body::picture_read, crate::specs::Body::quads_read, crate::specs::Body::quads_filled, crate::specs::Body::picture_given, core_checks::specs::Checks::unless_refused))]
+pub fn read<'a>(
+    mut r: Reader<'a>,
     place: usize,
     extent: Option<usize>,
     quads: &mut [u32],
-) -> PictureParsed
+) -> Parsed<PicturePane>
     requires { (place < 2 ^ 32) × (2040 ≤ length quads.old) }
-    ensures value { result ≡ picture_read order «data».now p place extent }
-    ensures quads_after { quads.new ≡ quads_read order «data».now p place extent quads.old }
+    ensures value { result ≡ picture_read r.entry.source.order r.entry.source.«data».now (Ok r.entry.cursor) place extent }
+    ensures quads_after { quads.new ≡ quads_read r.entry.source.order r.entry.source.«data».now (Ok r.entry.cursor) place extent quads.old }
 {
-    let m = measure(order, data, p, place, extent);
-    fill(order, data, m, quads);
-    given(m)
+    let m = match measure(&mut r, place, extent) {
+        Ok(m) => m,
+        Err(why) => return Parsed::refused(why),
+    };
+    fill(r.source, m, quads);
+    Parsed::accepted(r.cursor, m.base, m.own.picture)
 }
 
 // 1, 2 and 3
+#[tactic(auto, unfolding(crate::specs::Body::picture_start, core_checks::specs::Checks::list_checked, core_read::specs::Taken::stop_if))]
 fn read_start(length: usize, place: usize, quads: usize) -> Place
     ensures { result ≡ picture_start length place quads }
 {
-    let p = checks::body_start(length, place);
-    checks::list_checked(p, 1, 2040, quads)
+    let c = checks::body_start(length, place)?;
+    checks::list_checked(NumberList::Quads, 2040, quads)?;
+    Ok(c)
 }
 
 // The picture pane at a place: checks 1, 2, 3, the reads with 4, then 7. The quads go to the front of the list where nothing was refused.
-pub fn parse(order: ByteOrder, data: &[u8], place: usize, quads: &mut [u32]) -> PictureParsed
-    ensures value { result ≡ picture_parsed order «data».now place (length quads.old) }
-    ensures quads_after { quads.new ≡ quads_parsed order «data».now place quads.old }
-    ensures answer_value { parsed_by_number result.answer ≡ parsed_by_number (picture_parsed order «data».now place (length quads.old)).answer }
+#[tactic(auto, using(crate::proofs::Calls::start_cleared, crate::proofs::Calls::measured_stays), unfolding(crate::specs::Body::picture_parsed, crate::specs::Body::quads_parsed, crate::specs::Body::picture_read, crate::specs::Body::quads_read, crate::specs::Body::quads_filled, crate::specs::Body::picture_given, core_checks::specs::Checks::unless_refused))]
+pub fn parse<'a>(source: Source<'a>, place: usize, quads: &mut [u32]) -> Parsed<PicturePane>
+    ensures value { result ≡ picture_parsed source.entry.order source.entry.«data».now place (length quads.old) }
+    ensures quads_after { quads.new ≡ quads_parsed source.entry.order source.entry.«data».now place quads.old }
+    ensures answer_value { parsed_by_number result.answer ≡ parsed_by_number (picture_parsed source.entry.order source.entry.«data».now place (length quads.old)).answer }
 {
-    let p = read_start(data.len(), place, quads.len());
-    match p {
-        Ok(c) => read(order, data, Ok(c), place, None, quads),
-        Err(why) => refused(why),
+    match read_start(source.data.len(), place, quads.len()) {
+        Ok(cursor) => read(Reader { source, cursor }, place, None, quads),
+        Err(why) => Parsed::refused(why),
     }
 }
 
 // The bytes of the whole body.
+#[tactic(auto, using(crate::proofs::Cleared::picture_short), unfolding(crate::specs::Body::body_length))]
 pub fn body_length(x: PicturePane, quads: &[u32]) -> usize
     requires { GoodPicture quads.now }
     ensures { result ≡ body_length x quads.now }
@@ -163,19 +127,13 @@ fn write_checked(
 }
 
 // The base, and what the kind adds.
-pub fn put_body(
-    order: ByteOrder,
-    out: &mut [u8],
-    p: usize,
-    b: Pane,
-    x: PicturePane,
-    quads: &[u32],
-) -> usize
-    requires { Sound b × GoodPicture quads.now × Room out.old p (body_length x quads.now) }
-    ensures { Put out.old p (body_length x quads.now) (encode_body order b x quads.now) result out.new }
+#[tactic(auto, unfolding(crate::specs::Body::body_length))]
+pub fn put_body<'a, 's>(w: &'s mut Writer<'a>, b: Pane, x: PicturePane, quads: &[u32])
+    requires { Sound b × GoodPicture quads.now × HasRoom w.old (body_length x quads.now) }
+    ensures { Puts w.old w.new (body_length x quads.now) (λ order. encode_body order b x quads.now) }
 {
-    let q = pane::put_pane(order, out, p, b);
-    picture_fields::put_picture(order, out, q, x, quads)
+    pane::put_pane(w, b);
+    picture_fields::put_picture(w, x, quads);
 }
 
 // The picture pane at a place: checks 1, 2, 9, 10, 11, 16. A refusal leaves the output as it was; an accepted write answers its end, and changes no byte but its own.
@@ -193,5 +151,7 @@ pub fn write(
     ensures result_value { written_by_number result ≡ written_by_number (picture_written b x quads.now (length out.old) place) }
 {
     write_checked(b, x, quads, out.len(), place)?;
-    Ok(put_body(order, out, place, b, x, quads))
+    let mut w = Writer { order, out, place };
+    put_body(&mut w, b, x, quads);
+    Ok(w.place)
 }

@@ -2,15 +2,19 @@
 use Rattle.std.specs.Prelude.{◌≡◌, ℕ, ◌+◌, ◌*◌, ◌/◌, ◌%◌, ◌≤◌, cond, List, [], ◌∷◌, ◌++◌, length, eqb, None, Ok, Some, Option}
 use Rattle.core_read.specs.Bytes.{bytes_of, bytes_of_all, Room}
 use Rattle.core_read.specs.Taken.{u8_taken, u16_taken, u32_taken, Place}
-use Rattle.core_read.specs.declared.cursor.Taken.{Taken}
+use Rattle.core_read.specs.Taken.{Taken}
 use Rattle.core_checks.specs.Checks.{count_checked}
 use Rattle.core_read.specs.Lists.{numbers_taken}
 use Rattle.core_read.specs.declared.cursor.ByteOrder.{ByteOrder}
-use Rattle.core_read.specs.declared.cursor.Cursor.{Cursor}
 use Rattle.ui2d.specs.Parts.{colors_taken, encode_colors}
 use Rattle.ui2d.specs.declared.Color4u8.{Color4u8}
+use Rattle.ui2d.specs.Material.{material_taken}
+use Rattle.ui2d.specs.declared.material.Material.{Material}
 use Rattle.picture_fields.specs.declared.PicturePane.{PicturePane}
-use Rattle.picture_fields.specs.declared.PictureTaken.{PictureTaken}
+use Rattle.picture_fields.specs.declared.PictureFound.{PictureFound}
+use Rattle.picture_fields.specs.declared.PictureHead.{PictureHead}
+use Rattle.core_read.specs.declared.error.NumberList.TheVariants.{Quads}
+use Rattle.core_read.specs.Taken.{cursor_of}
 
 -- nnbfl's Option of the shape index
 abbrev pub ShapeIndex : Type 0
@@ -24,8 +28,15 @@ shape_taken order s p byte =
     let index : Taken ℕ = u32_taken order s p in
     cond (eqb byte 0) (record { value = None; then = p }) (record { value = Some index.value; then = index.then })
 
+-- the 20 bytes before the quads
+unfoldable pub head_taken : ByteOrder → List ℕ → Place → Taken PictureHead
+head_taken order s p =
+    let colors : Taken (List Color4u8) = colors_taken order s p in
+    let material : Taken Material = material_taken order s colors.then in
+    record { value = record { vertex_colors = colors.value; material = material.value }; then = material.then }
+
 -- eight floats a quad, kept by their bits
-unfoldable pub picture_taken : ByteOrder → List ℕ → Place → PictureTaken
+unfoldable pub picture_taken : ByteOrder → List ℕ → Place → Taken PictureFound
 picture_taken order s p =
     let colors : Taken (List Color4u8) = colors_taken order s p in
     let material : Taken ℕ = u16_taken order s colors.then in
@@ -34,28 +45,28 @@ picture_taken order s p =
     let quads : Taken (List ℕ) = numbers_taken order 4 (8 * count.value) s shape.then in
     let index : Taken ShapeIndex = shape_taken order s quads.then shape.value in
     record {
-      picture = record {
-        vertex_colors = colors.value;
-        material_index = material.value;
-        shape_info_array_index = index.value;
-        quad_count = count.value;
+      value = record {
+        picture = record {
+          vertex_colors = colors.value;
+          material_index = material.value;
+          shape_info_array_index = index.value;
+          quad_count = count.value;
+        };
+        quads = cursor_of shape.then;
       };
-      quads = shape.then;
       then = index.then;
     }
 
 -- the numbers of the quads of a picture that was measured, and of one that is read at a place
-unfoldable pub quads_of : ByteOrder → List ℕ → PictureTaken → List ℕ
-quads_of order s t = (numbers_taken order 4 (8 * t.picture.quad_count) s t.quads).value
+unfoldable pub quads_of : ByteOrder → List ℕ → PictureFound → List ℕ
+quads_of order s t = (numbers_taken order 4 (8 * t.picture.quad_count) s (Ok t.quads)).value
 
 unfoldable pub picture_quads : ByteOrder → List ℕ → Place → List ℕ
-picture_quads order s p = quads_of order s (picture_taken order s p)
+picture_quads order s p = quads_of order s (picture_taken order s p).value
 
 -- the quads of a measured picture are all there, and a list of n numbers has room for as many as a count can be
-pub record Measured (s : List ℕ) (t : PictureTaken) (n : ℕ) : Type 0 where
-  pub from : Cursor
-  pub here : t.quads ≡ Ok from
-  pub there : Room s from.pos (32 * t.picture.quad_count)
+pub record Measured (s : List ℕ) (t : PictureFound) (n : ℕ) : Type 0 where
+  pub there : Room s t.quads.pos (32 * t.picture.quad_count)
   pub room : 2040 ≤ n
 
 abbrev zero_color : Color4u8
@@ -74,7 +85,7 @@ blank_picture = record {
 
 -- 11: quads not 8n numbers, n at most 255: list 1
 unfoldable pub picture_checked : Place → List ℕ → Place
-picture_checked p quads = count_checked p 1 8 (length quads)
+picture_checked p quads = count_checked p Quads 8 (length quads)
 
 -- what check 11 leaves
 pub record GoodPicture (quads : List ℕ) : Type 0 where

@@ -2,19 +2,21 @@
 #![tactic(auto)]
 
 ghost use Rattle.std.specs.Prelude.{◌≡◌, ◌^◌, ◌<◌, length};
-ghost use Rattle.core_read.specs.Bytes.{Room, Put};
+ghost use Rattle.core_read.specs.Steps.{Took};
 ghost use Rattle.core_read.specs.Taken.{over};
 ghost use Rattle.core_checks.specs.Answered.{Lets};
-ghost use Rattle.picture_fields.specs.Picture.{shape_taken, picture_taken, quads_of, Measured, blank_picture, picture_checked, GoodPicture, shape_byte, shape_length, encode_shape, picture_length, encode_picture};
+ghost use Rattle.core_write.specs.Puts.{HasRoom, Puts};
+ghost use Rattle.picture_fields.specs.Picture.{head_taken, shape_taken, picture_taken, quads_of, Measured, blank_picture, picture_checked, GoodPicture, shape_byte, shape_length, encode_shape, picture_length, encode_picture};
 ghost use Rattle.picture_fields.specs.Typed.{TypedShape, TypedPicture};
 
 use core_checks::checks;
-use core_read::cursor::{ByteOrder, Place, Taken};
-use core_read::error::Refusal;
-use core_read::{cursor, list};
-use core_write::writer;
+use core_read::cursor::Cursor;
+use core_read::error::{NumberList, Refusal};
+use core_read::reader::{Field, Reader, Source};
+use core_write::writer::Writer;
 use ui2d::Color4u8;
-use ui2d::material::take_material;
+use ui2d::material::Material;
+use ui2d::quads::{fill_quads, put_quads};
 
 // Colours of the corners: top left, top right, bottom left, bottom right. The count is that of the read; a write takes it from the lent list.
 #[derive(Clone, Copy)]
@@ -25,50 +27,72 @@ pub struct PicturePane {
     pub quad_count: u8,
 }
 
-// With the place where the quads begin.
+// What stands before the quads: the colours, and the material with the quad count and the shape byte.
 #[derive(Clone, Copy)]
-pub struct PictureTaken {
+struct PictureHead {
+    vertex_colors: [Color4u8; 4],
+    material: Material,
+}
+
+// A picture that was measured, and where its quads begin.
+#[derive(Clone, Copy)]
+pub struct PictureFound {
     pub picture: PicturePane,
-    pub quads: Place,
-    pub then: Place,
+    pub quads: Cursor,
 }
 
 // ---- reading
 
-// A shape index where its byte is nonzero.
-fn take_shape(order: ByteOrder, data: &[u8], p: Place, byte: u8) -> Taken<Option<u32>>
-    ensures { result ≡ shape_taken order «data».now p byte }
-{
-    if byte == 0 {
-        Taken {
-            value: None,
-            then: p,
-        }
-    } else {
-        let index = cursor::take_u32(order, data, p);
-        let then = index.then;
-        Taken {
-            value: Some(index.value),
-            then,
+impl Field for PictureHead {
+    ghost taken = { head_taken };
+
+    const WIDTH: usize = 20;
+
+    ghost WIDTH = { 20 };
+
+    #[tactic(auto, unfolding(crate::specs::Picture::head_taken, ui2d::specs::Material::material_taken, core_read::specs::Taken::number_taken))]
+    fn fields<'a, 's>(r: &'s mut Reader<'a>) -> Result<PictureHead, Refusal> {
+        let vertex_colors = ui2d::read_colors(r)?;
+        let material = r.take()?;
+        Ok(PictureHead {
+            vertex_colors,
+            material,
+        })
+    }
+
+    fn at<'a>(source: Source<'a>, at: usize) -> PictureHead {
+        PictureHead {
+            vertex_colors: ui2d::colors_at(source, at),
+            material: Material::at(source, at + 16),
         }
     }
 }
 
-// The quads are only measured.
-pub fn measure_picture(order: ByteOrder, data: &[u8], p: Place) -> PictureTaken
-    ensures { result ≡ picture_taken order «data».now p }
+// A shape index where its byte is nonzero.
+#[tactic(auto, unfolding(crate::specs::Picture::shape_taken))]
+fn take_shape<'a, 's>(r: &'s mut Reader<'a>, byte: u8) -> Result<Option<u32>, Refusal>
+    ensures { Took r.old r.new result (λ order s p. shape_taken order s p byte) }
 {
-    let colors = ui2d::take_colors(order, data, p);
-    let p1 = colors.then;
-    let material = take_material(order, data, p1);
-    let quads = material.then;
+    if byte == 0 {
+        return Ok(None);
+    }
+    let index = r.number()?;
+    Ok(Some(index))
+}
+
+// The quads are only passed.
+#[tactic(auto, using(core_read::proofs::Lists::numbers_stay, crate::proofs::Run::shape_stays), unfolding(crate::specs::Picture::picture_taken, crate::specs::Picture::head_taken, ui2d::specs::Material::material_taken, core_read::specs::Taken::number_taken))]
+pub fn measure_picture<'a, 's>(r: &'s mut Reader<'a>) -> Result<PictureFound, Refusal>
+    ensures { Took r.old r.new result picture_taken }
+{
+    let head = r.take::<PictureHead>()?;
+    let vertex_colors = head.vertex_colors;
+    let material = head.material;
+    let quads = r.cursor;
     let n = material.first as usize;
-    let p2 = list::measure_u32s(order, data, quads, 8 * n);
-    let index = take_shape(order, data, p2, material.second);
-    let vertex_colors = colors.value;
-    let shape_info_array_index = index.value;
-    let then = index.then;
-    PictureTaken {
+    r.pass::<u32>(8 * n)?;
+    let shape_info_array_index = take_shape(r, material.second)?;
+    Ok(PictureFound {
         picture: PicturePane {
             vertex_colors,
             material_index: material.index,
@@ -76,27 +100,20 @@ pub fn measure_picture(order: ByteOrder, data: &[u8], p: Place) -> PictureTaken
             quad_count: material.first,
         },
         quads,
-        then,
-    }
+    })
 }
 
 // The quads of a picture that was measured, at the front of a list.
-pub fn fill_picture(order: ByteOrder, data: &[u8], taken: PictureTaken, quads: &mut [u32])
-    requires { Measured «data».now taken (length quads.old) }
-    ensures { quads.new ≡ over (quads_of order «data».now taken) quads.old }
+pub fn fill_picture<'a>(source: Source<'a>, found: PictureFound, quads: &mut [u32])
+    requires { Measured source.«data».now found (length quads.old) }
+    ensures { quads.new ≡ over (quads_of source.entry.order source.entry.«data».now found) quads.old }
 {
-    let place = taken.quads;
-    let n = taken.picture.quad_count as usize;
-    match place {
-        Ok(c) => {
-            let at = c.pos;
-            ui2d::quads::fill_quads(order, data, at, n, quads);
-        }
-        Err(_) => {}
-    }
+    let n = found.picture.quad_count as usize;
+    fill_quads(source, found.quads.pos, n, quads);
 }
 
 // The picture beside a refusal.
+#[tactic(auto, unfolding(crate::specs::Picture::blank_picture))]
 pub fn blank_picture() -> PicturePane
     ensures { result ≡ blank_picture }
 {
@@ -115,6 +132,14 @@ pub fn blank_picture() -> PicturePane
     }
 }
 
+impl Default for PicturePane {
+    ghost is_default = { λ x. x ≡ blank_picture };
+
+    fn default() -> PicturePane {
+        blank_picture()
+    }
+}
+
 // ---- writing
 
 // 11
@@ -122,7 +147,7 @@ pub fn blank_picture() -> PicturePane
 pub fn picture_checked(quads: &[u32]) -> Result<(), Refusal>
     ensures { Lets result (λ p. picture_checked p quads.now) }
 {
-    checks::count_checked(1, 8, quads.len())
+    checks::count_checked(NumberList::Quads, 8, quads.len())
 }
 
 fn shape_byte(x: Option<u32>) -> u8
@@ -144,45 +169,39 @@ fn shape_length(x: Option<u32>) -> usize
 }
 
 // The bytes beyond the base.
+#[tactic(auto, using(crate::proofs::Run::shape_short), unfolding(crate::specs::Picture::picture_length))]
 pub fn picture_length(x: PicturePane, quads: &[u32]) -> usize
     requires { GoodPicture quads.now }
     ensures { result ≡ picture_length x quads.now }
 {
-    let shape = x.shape_info_array_index;
-    20 + 4 * quads.len() + shape_length(shape)
+    20 + 4 * quads.len() + shape_length(x.shape_info_array_index)
 }
 
-fn put_shape(order: ByteOrder, out: &mut [u8], p: usize, x: Option<u32>) -> usize
-    requires { Room out.old p (shape_length x) }
-    ensures { Put out.old p (shape_length x) (encode_shape order x) result out.new }
+#[tactic(auto, using(core_write::proofs::Chain::puts_none), unfolding(crate::specs::Picture::encode_shape))]
+fn put_shape<'a, 's>(w: &'s mut Writer<'a>, x: Option<u32>)
+    requires { HasRoom w.old (shape_length x) }
+    ensures { Puts w.old w.new (shape_length x) (λ order. encode_shape order x) }
 {
     match x {
-        None => p,
-        Some(index) => writer::put_u32(order, out, p, index),
+        None => {}
+        Some(index) => w.put_number(index),
     }
 }
 
 // The picture after the base.
-pub fn put_picture(
-    order: ByteOrder,
-    out: &mut [u8],
-    p: usize,
-    x: PicturePane,
-    quads: &[u32],
-) -> usize
-    requires { GoodPicture quads.now × Room out.old p (picture_length x quads.now) }
-    ensures { Put out.old p (picture_length x quads.now) (encode_picture order x quads.now) result out.new }
+#[tactic(auto, unfolding(crate::specs::Picture::picture_length))]
+pub fn put_picture<'a, 's>(w: &'s mut Writer<'a>, x: PicturePane, quads: &[u32])
+    requires { GoodPicture quads.now × HasRoom w.old (picture_length x quads.now) }
+    ensures { Puts w.old w.new (picture_length x quads.now) (λ order. encode_picture order x quads.now) }
 {
     let count = (quads.len() / 8) as u8;
     let shape = x.shape_info_array_index;
-    let byte = shape_byte(shape);
-    let colors = x.vertex_colors;
-    let q = ui2d::put_colors(order, out, p, colors);
-    let q = writer::put_u16(order, out, q, x.material_index);
-    let q = writer::put_u8(order, out, q, count);
-    let q = writer::put_u8(order, out, q, byte);
-    let q = ui2d::quads::put_quads(order, out, q, quads);
-    put_shape(order, out, q, shape)
+    ui2d::put_colors(w, x.vertex_colors);
+    w.put_number(x.material_index);
+    w.put_number(count);
+    w.put_number(shape_byte(shape));
+    put_quads(w, quads);
+    put_shape(w, shape);
 }
 
 // ---- what the types say

@@ -40,13 +40,14 @@ use Rattle.strip_kinds.specs.Body.{body_read, body_lists}
 use Rattle.reach.specs.Agrees.{Agrees}
 use Rattle.reach.specs.Seen.{body_seen}
 use Rattle.reach.specs.Figures.{seeks}
-use Rattle.reach.proofs.Steps.{Went, Reads, Took, Owns, Owned, told, so, after}
+use Rattle.reach.proofs.Steps.{Leads, Reads, Reading, Owns, Owned, told, so, after}
 use Rattle.reach.proofs.Pane.{pane_went}
 use Rattle.reach.proofs.Own.{alignment_went, picture_went}
 use Rattle.reach.proofs.Window.{window_went}
 use Rattle.reach.proofs.TextBoxes.{text_box_went}
 use Rattle.text_box_parts.specs.Parts.{Label}
 use Rattle.std.specs.Prelude.{Err, None, Ok, Some}
+use Rattle.core_read.specs.declared.error.CheckedText.TheVariants.{Label as OfLabel}
 
 -- a body at B whose fixed bytes are k, of n bytes, read to d: its fixed bytes lie below the reach, the end is not past it, the base is there, and of a kind
 -- with no offsets the reach is the end
@@ -61,7 +62,7 @@ pub record Ran (body k : ℕ) (sought : Bool) (end reach lo r n : ℕ) (Same : T
   pub cursor : Cursor
   pub stop : cursor.pos ≡ end
   pub far : cursor.reach ≡ reach
-  pub went : Went lo r n (λ (c : Cursor). c ≡ start body → Ended body k n sought cursor) (Ok (start body)) cursor Same
+  pub went : Leads lo r n (λ (c : Cursor). c ≡ start body → Ended body k n sought cursor) (Ok (start body)) cursor Same
 
 -- an answer that was read: the cursor that it is of
 record Answered (q : Place) (end reach : ℕ) : Type 0 where
@@ -92,17 +93,17 @@ none_owns body n c e x h =
     rw x.reads (record { owns = λ f. (omega (arith, v, p, f), omega (arith, v, p)); level = λ b f. f })
 
 ran_by : {body k end reach lo r n : ℕ} {sought : Bool} {X : Type 0} {q : Place} (f : Answered q end reach)
-    → Went lo r n (λ (c : Cursor). c ≡ start body → Ended body k n sought f.cursor) (Ok (start body)) f.cursor X → Ran body k sought end reach lo r n X
+    → Leads lo r n (λ (c : Cursor). c ≡ start body → Ended body k n sought f.cursor) (Ok (start body)) f.cursor X → Ran body k sought end reach lo r n X
 ran_by f x = record { cursor = f.cursor; stop = f.stop; far = f.far; went = x }
 
-base_ran : {body end reach lo r n : ℕ} {X : Type 0} {q : Place} (f : Answered q end reach) → Took lo r n 76 (Ok (start body)) f.cursor X → Ran body 76 false end reach lo r n X
+base_ran : {body end reach lo r n : ℕ} {X : Type 0} {q : Place} (f : Answered q end reach) → Reading lo r n 76 (Ok (start body)) f.cursor X → Ran body 76 false end reach lo r n X
 base_ran {body} {n = n} f x =
     let d = f.cursor in
     ran_by f (told x (λ (c : Cursor). c ≡ start body → Ended body 76 n false d)
     (λ h. own_ended body 76 n false x.from d d x.how (none_owns body n x.from d x.how h) h))
 
 own_ran : {body k end reach lo r n : ℕ} {sought : Bool} {X Y : Type 0} {q p : Place} (f : Answered q end reach) (y : Owned lo r n body k sought p f.cursor Y)
-    → Took lo r n 76 (Ok (start body)) y.from X → Ran body k sought end reach lo r n (X × Y)
+    → Reading lo r n 76 (Ok (start body)) y.from X → Ran body k sought end reach lo r n (X × Y)
 own_ran {body} {k} {n = n} {sought = sought} f y x =
     let d = f.cursor in
     ran_by f (after y x (λ (c : Cursor). c ≡ start body → Ended body k n sought d) (own_ended body k n sought x.from y.from d x.how y.how))
@@ -115,7 +116,7 @@ ran_so x f = record { cursor = x.cursor; stop = x.stop; far = x.far; went = so x
 label_same : (p : Place) (s s' : List ℕ) (l : Label) → label_of s' l ≡ label_of s l → label_checked p s' l ≡ label_checked p s l
 unfolding label_checked
 label_same p s s' None e = refl
-label_same p s s' (Some span) e = ap (λ (b : List ℕ). stop_if p (not (well_formed b)) (IllFormedUtf8 span.place 3)) e
+label_same p s s' (Some span) e = ap (λ (b : List ℕ). stop_if p (not (well_formed b)) (IllFormedUtf8 span.place OfLabel)) e
 
 label_unless : (q : Place) (s s' : List ℕ) (x : TextBoxPane) → label_of s' x.label ≡ label_of s x.label
     → label_of s' (unless_refused q blank_text_box x).label ≡ label_of s (unless_refused q blank_text_box x).label
@@ -143,7 +144,7 @@ module _ (order : ByteOrder) (body : ℕ) (z : Extent) (l : Lists) where
   unfolding body_read body_lists pane_read pane_given pane_measured
   pan s s' end reach e a =
       let t = pane_taken order s (Ok (start body)) in
-      let f = ended t.then t.pane body z end reach e in
+      let f = ended t.then t.value body z end reach e in
       let x = pane_went (body - 8) reach s s' a order (Ok (start body)) f.answer.cursor f.stood in
       ran_so (base_ran f.answer x) (λ u. rw u)
 
@@ -152,7 +153,7 @@ module _ (order : ByteOrder) (body : ℕ) (z : Extent) (l : Lists) where
   ali s s' end reach e a =
       let b = pane_taken order s (Ok (start body)) in
       let t = alignment_taken order s b.then in
-      let f = ended t.then b.pane body z end reach e in
+      let f = ended t.then b.value body z end reach e in
       let y = alignment_went (body - 8) reach s s' a order body b.then f.answer.cursor f.stood in
       let x = pane_went (body - 8) reach s s' a order (Ok (start body)) y.from y.here in
       ran_so (own_ran f.answer y x) (λ u. rw (u.0, u.1))
@@ -162,7 +163,7 @@ module _ (order : ByteOrder) (body : ℕ) (z : Extent) (l : Lists) where
   pic s s' end reach e a =
       let b = pane_taken order s (Ok (start body)) in
       let t = picture_taken order s b.then in
-      let f = ended t.then b.pane body z end reach e in
+      let f = ended t.then b.value body z end reach e in
       let y = picture_went (body - 8) reach s s' a order body b.then f.answer.cursor f.stood in
       let x = pane_went (body - 8) reach s s' a order (Ok (start body)) y.from y.here in
       ran_so (own_ran f.answer y x) (λ u. rw (u.0, u.1.0, u.1.1))
@@ -172,7 +173,7 @@ module _ (order : ByteOrder) (body : ℕ) (z : Extent) (l : Lists) where
   wnd s s' end reach e a =
       let b = pane_taken order s (Ok (start body)) in
       let t = window_taken order s b.then body in
-      let f = ended t.then b.pane body z end reach e in
+      let f = ended t.then b.value body z end reach e in
       let y = window_went (body - 8) reach s s' a order body (omega arith) b.then f.answer.cursor f.stood in
       let x = pane_went (body - 8) reach s s' a order (Ok (start body)) y.from y.here in
       ran_so (own_ran f.answer y x) (λ u. rw (u.0, u.1.0, u.1.1, u.1.2))
@@ -182,11 +183,11 @@ module _ (order : ByteOrder) (body : ℕ) (z : Extent) (l : Lists) where
   txt s s' end reach e a =
       let b = pane_taken order s (Ok (start body)) in
       let t = text_box_taken order s b.then body in
-      let q = texts_checked t.then b.pane body in
-      let name : Label = t.text_box.label in
+      let q = texts_checked t.then b.value body in
+      let name : Label = t.value.text_box.label in
       let f = answered (reach_checked (label_checked q s name) z) end reach e in
       let h = reach_cleared (label_checked q s name) z f.cursor f.here in
-      let g = texts_cleared t.then b.pane body f.cursor (label_cleared q s name f.cursor h) in
+      let g = texts_cleared t.then b.value body f.cursor (label_cleared q s name f.cursor h) in
       let y = text_box_went (body - 8) reach s s' a order body (omega arith) b.then f.cursor g in
       let x = pane_went (body - 8) reach s s' a order (Ok (start body)) y.from y.here in
       ran_so (own_ran f y x) (λ u.
@@ -196,7 +197,7 @@ module _ (order : ByteOrder) (body : ℕ) (z : Extent) (l : Lists) where
         label_same q s s' name u.1.1,
         u.1.2,
         u.1.3,
-        label_unless (reach_checked (label_checked q s name) z) s s' t.text_box u.1.1,
+        label_unless (reach_checked (label_checked q s name) z) s s' t.value.text_box u.1.1,
       ))
 
   -- every kind

@@ -8,6 +8,7 @@ use Rattle.core_read.specs.Taken.{start, Place}
 use Rattle.core_read.specs.declared.error.Refusal.{Refusal}
 use Rattle.core_read.specs.declared.cursor.ByteOrder.{ByteOrder}
 use Rattle.core_read.specs.declared.cursor.Cursor.{Cursor}
+use Rattle.core_read.specs.declared.error.NumberList.TheVariants.{Quads, Units, Lines, Frames}
 use Rattle.core_checks.specs.Checks.{body_start}
 use Rattle.core_checks.proofs.Checked.{BodyOk, body_started, body_passes, list_cleared, list_passes}
 use Rattle.pane.specs.Body.{pane_given, pane_read, pane_parsed}
@@ -74,16 +75,16 @@ unfolding start_of picture_start text_box_start read_start
 started Pan1 n body l c e = record { ok = (body_started n body c e).1; again = λ m h. body_passes m body h }
 started Ali1 n body l c e = record { ok = (body_started n body c e).1; again = λ m h. body_passes m body h }
 started Pic1 n body l c e =
-    let (a, x) = list_cleared _ 1 2040 (length l.quads) c e in
-    record { ok = (body_started n body c a).1; again = λ m h. rw (body_passes m body h, list_passes (start body) 1 2040 _ x) }
+    let (a, x) = list_cleared _ Quads 2040 (length l.quads) c e in
+    record { ok = (body_started n body c a).1; again = λ m h. rw (body_passes m body h, list_passes (start body) Quads 2040 _ x) }
 started Txt1 n body l c e =
-    let (a, x) = list_cleared _ 3 510 (length l.lines) c e in
-    let (b, y) = list_cleared _ 2 32767 (length l.units) c a in
-    record { ok = (body_started n body c b).1; again = λ m h. rw (body_passes m body h, list_passes (start body) 2 32767 _ y, list_passes (start body) 3 510 _ x) }
+    let (a, x) = list_cleared _ Lines 510 (length l.lines) c e in
+    let (b, y) = list_cleared _ Units 32767 (length l.units) c a in
+    record { ok = (body_started n body c b).1; again = λ m h. rw (body_passes m body h, list_passes (start body) Units 32767 _ y, list_passes (start body) Lines 510 _ x) }
 started Wnd1 n body l c e =
-    let (a, x) = list_cleared _ 4 510 (length l.frames) c e in
-    let (b, y) = list_cleared _ 1 2040 (length l.quads) c a in
-    record { ok = (body_started n body c b).1; again = λ m h. rw (body_passes m body h, list_passes (start body) 1 2040 _ y, list_passes (start body) 4 510 _ x) }
+    let (a, x) = list_cleared _ Frames 510 (length l.frames) c e in
+    let (b, y) = list_cleared _ Quads 2040 (length l.quads) c a in
+    record { ok = (body_started n body c b).1; again = λ m h. rw (body_passes m body h, list_passes (start body) Quads 2040 _ y, list_passes (start body) Frames 510 _ x) }
 
 module _ (order : ByteOrder) (k : Kind) (body : ℕ) (l : Lists) where
   abbrev Accepted : List ℕ → ℕ → ℕ → Type 0

@@ -6,8 +6,8 @@ use native.Mathlib.Omega.{arith}
 use mathlib.Core.List.{List}
 use lib.ListN.{length}
 use lib.Dec.{lit≤}
-use Rattle.core_read.specs.Taken.{number_taken, Place}
-use Rattle.core_read.specs.declared.cursor.Taken.{Taken}
+use Rattle.core_read.specs.Taken.{cursor_of, number_taken, Place}
+use Rattle.core_read.specs.Taken.{Taken}
 use Rattle.core_read.specs.Lists.{numbers_taken, numbers_at}
 use Rattle.core_read.specs.declared.cursor.ByteOrder.{ByteOrder}
 use Rattle.core_read.specs.declared.cursor.Cursor.{Cursor}
@@ -16,12 +16,17 @@ use Rattle.core_read.proofs.Lists.{numbers_here}
 use Rattle.ui2d.specs.Parts.{vector2_taken, vector3_taken, color_taken, colors_taken}
 use Rattle.picture.proofs.Came.{numbers_fit}
 use Rattle.reach.specs.Agrees.{Agrees}
-use Rattle.reach.proofs.Steps.{Reads, Took, told, so, on, none, number_went}
-use Rattle.std.specs.Prelude.{Ok}
+use Rattle.reach.proofs.Steps.{Reads, Reading, told, so, on, none, number_went}
+use Rattle.std.specs.Prelude.{Err, Ok}
+
+-- the cursor of a place that has one
+pub stood : (q : Place) (c : Cursor) → q ≡ Ok c → ◌≡◌ {A = Place} (Ok (cursor_of q)) q
+stood (Ok d) c e = refl
+stood (Err why) c e = cc
 
 module _ (lo r : ℕ) (s s' : List ℕ) (a : Agrees lo r s s') (order : ByteOrder) where
   pub numbers_went : (w n : ℕ) → 0 < w → (p : Place) (d : Cursor) → (numbers_taken order w n s p).then ≡ Ok d
-      → Took lo r (length s) (w * n) p d (numbers_taken order w n s' p ≡ numbers_taken order w n s p)
+      → Reading lo r (length s) (w * n) p d (numbers_taken order w n s' p ≡ numbers_taken order w n s p)
   unfolding numbers_taken
   numbers_went w zero h p d e = none _ (Reads _ (w * 0) d) e (record { reads = rw (mul-zero w) (sym (advanced_zero d)); room = λ h. absurd (omega (arith, mul-zero w)) }) refl
   numbers_went w (suc n) h p d e =
@@ -32,23 +37,23 @@ module _ (lo r : ℕ) (s s' : List ℕ) (a : Agrees lo r s s') (order : ByteOrde
       so (told z (Reads _ (w * suc n) d) (subst (λ (k : ℕ). Reads (length s) k d z.from) m z.how)) (λ u. rw (u.0, u.1))
 
   -- a number of 1, 2 or 4 bytes
-  pub one : (p : Place) (d : Cursor) → (number_taken order 1 s p).then ≡ Ok d → Took lo r (length s) 1 p d (number_taken order 1 s' p ≡ number_taken order 1 s p)
+  pub one : (p : Place) (d : Cursor) → (number_taken order 1 s p).then ≡ Ok d → Reading lo r (length s) 1 p d (number_taken order 1 s' p ≡ number_taken order 1 s p)
   one p d e = number_went lo r s s' a order 1 (lit≤ tt) p d e
 
-  pub two : (p : Place) (d : Cursor) → (number_taken order 2 s p).then ≡ Ok d → Took lo r (length s) 2 p d (number_taken order 2 s' p ≡ number_taken order 2 s p)
+  pub two : (p : Place) (d : Cursor) → (number_taken order 2 s p).then ≡ Ok d → Reading lo r (length s) 2 p d (number_taken order 2 s' p ≡ number_taken order 2 s p)
   two p d e = number_went lo r s s' a order 2 (lit≤ tt) p d e
 
-  pub four : (p : Place) (d : Cursor) → (number_taken order 4 s p).then ≡ Ok d → Took lo r (length s) 4 p d (number_taken order 4 s' p ≡ number_taken order 4 s p)
+  pub four : (p : Place) (d : Cursor) → (number_taken order 4 s p).then ≡ Ok d → Reading lo r (length s) 4 p d (number_taken order 4 s' p ≡ number_taken order 4 s p)
   four p d e = number_went lo r s s' a order 4 (lit≤ tt) p d e
 
-  pub vector2_went : (p : Place) (d : Cursor) → (vector2_taken order s p).then ≡ Ok d → Took lo r (length s) 8 p d (vector2_taken order s' p ≡ vector2_taken order s p)
+  pub vector2_went : (p : Place) (d : Cursor) → (vector2_taken order s p).then ≡ Ok d → Reading lo r (length s) 8 p d (vector2_taken order s' p ≡ vector2_taken order s p)
   unfolding vector2_taken
   vector2_went p d e =
       let y = four (number_taken order 4 s p).then d e in
       let x = four p y.from y.here in
       so (on y x) (λ u. rw (u.0, u.1))
 
-  pub vector3_went : (p : Place) (d : Cursor) → (vector3_taken order s p).then ≡ Ok d → Took lo r (length s) 12 p d (vector3_taken order s' p ≡ vector3_taken order s p)
+  pub vector3_went : (p : Place) (d : Cursor) → (vector3_taken order s p).then ≡ Ok d → Reading lo r (length s) 12 p d (vector3_taken order s' p ≡ vector3_taken order s p)
   unfolding vector3_taken
   vector3_went p d e =
       let q : Place = (number_taken order 4 s p).then in
@@ -57,7 +62,7 @@ module _ (lo r : ℕ) (s s' : List ℕ) (a : Agrees lo r s s') (order : ByteOrde
       let x = four p y.from y.here in
       so (on z (on y x)) (λ u. rw (u.0.0, u.0.1, u.1))
 
-  pub color_went : (p : Place) (d : Cursor) → (color_taken order s p).then ≡ Ok d → Took lo r (length s) 4 p d (color_taken order s' p ≡ color_taken order s p)
+  pub color_went : (p : Place) (d : Cursor) → (color_taken order s p).then ≡ Ok d → Reading lo r (length s) 4 p d (color_taken order s' p ≡ color_taken order s p)
   unfolding color_taken
   color_went p d e =
       let p₁ : Place = (number_taken order 1 s p).then in
@@ -68,7 +73,7 @@ module _ (lo r : ℕ) (s s' : List ℕ) (a : Agrees lo r s s') (order : ByteOrde
       let x = one p y.from y.here in
       so (on t (on z (on y x))) (λ u. rw (u.0.0.0, u.0.0.1, u.0.1, u.1))
 
-  pub colors_went : (p : Place) (d : Cursor) → (colors_taken order s p).then ≡ Ok d → Took lo r (length s) 16 p d (colors_taken order s' p ≡ colors_taken order s p)
+  pub colors_went : (p : Place) (d : Cursor) → (colors_taken order s p).then ≡ Ok d → Reading lo r (length s) 16 p d (colors_taken order s' p ≡ colors_taken order s p)
   unfolding colors_taken
   colors_went p d e =
       let p₁ : Place = (color_taken order s p).then in

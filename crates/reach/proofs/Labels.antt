@@ -36,24 +36,24 @@ upto_same (b ∷ x) (c ∷ y) e h =
     rw (← f) (upto_step (eqb b 0) b x y (upto_same x y) g h)
 
 -- the bytes of a label of so many bytes at a place, the same of both
-abbrev pub Stands : List ℕ → List ℕ → ℕ → ℕ → Type 0
-Stands s s' at long = label_of s' (Prelude.Some (record { place = at; length = long })) ≡ label_of s (Prelude.Some (record { place = at; length = long }))
+abbrev pub LabelStands : List ℕ → List ℕ → ℕ → ℕ → Type 0
+LabelStands s s' at long = label_of s' (Prelude.Some (record { place = at; length = long })) ≡ label_of s (Prelude.Some (record { place = at; length = long }))
 
 module _ (lo r : ℕ) (s s' : List ℕ) (a : Agrees lo r s s') where
   label_at : (c d : Cursor) (b : Bool) → ltb (c.pos + length (up_to_nul (drop c.pos s))) (length s) ≡ b → (label_taken s (Ok c)).then ≡ Ok d
-      → Some lo r (length s) (Ok c) d ((label_taken s' (Ok c) ≡ label_taken s (Ok c)) × Stands s s' c.pos (length (label_taken s (Ok c)).value))
+      → Some lo r (length s) (Ok c) d ((label_taken s' (Ok c) ≡ label_taken s (Ok c)) × LabelStands s s' c.pos (length (label_taken s (Ok c)).value))
   unfolding label_taken part
   label_at c d true e h =
       let k : ℕ = length (up_to_nul (drop c.pos s)) in
       let fit : c.pos + k < length s = ltb-true (c.pos + k) (length s) e in
       let i : ◌≡◌ {A = Place} (Ok (advanced c (k + 1))) (Ok d) = rw e at h in
       let j : advanced c (k + 1) ≡ d = cc in
-      let x = took lo r s s' a (k + 1) c d ((label_taken s' (Ok c) ≡ label_taken s (Ok c)) × Stands s s' c.pos (length (label_taken s (Ok c)).value)) (omega arith) (omega arith) j (λ l m.
+      let x = took lo r s s' a (k + 1) c d ((label_taken s' (Ok c) ≡ label_taken s (Ok c)) × LabelStands s s' c.pos (length (label_taken s (Ok c)).value)) (omega arith) (omega arith) j (λ l m.
       let q : take (suc k) (drop c.pos s) ≡ take (suc k) (drop c.pos s') = sym (part_same lo r s s' a (suc k) c.pos l (omega arith) (omega arith)) in
       let v : up_to_nul (drop c.pos s') ≡ up_to_nul (drop c.pos s) = upto_same (drop c.pos s) (drop c.pos s') q (omega (arith, length-drop c.pos s)) in
       let z : ltb (c.pos + k) (length s') ≡ true = lt-ltb (c.pos + k) (length s') (omega (arith, a.long)) in
       let same : label_taken s' (Ok c) ≡ label_taken s (Ok c) = rw (v, e, z) in
-      let stands : Stands s s' c.pos (length (label_taken s (Ok c)).value) =
+      let stands : LabelStands s s' c.pos (length (label_taken s (Ok c)).value) =
       rw (e, inside s c.pos k (omega arith) (omega arith), inside s' c.pos k (omega (arith, a.long)) (omega (arith, a.long)))
       (part_same lo r s s' a k c.pos l (omega arith) (omega arith)) in
       (same, stands)) in
@@ -67,12 +67,12 @@ module _ (lo r : ℕ) (s s' : List ℕ) (a : Agrees lo r s s') where
   label_refused why = refl
 
   pub label_went : (p : Place) (d : Cursor) → (label_taken s p).then ≡ Ok d
-      → Some lo r (length s) p d ((label_taken s' p ≡ label_taken s p) × ((c : Cursor) → p ≡ Ok c → Stands s s' c.pos (length (label_taken s p).value)))
+      → Some lo r (length s) p d ((label_taken s' p ≡ label_taken s p) × ((c : Cursor) → p ≡ Ok c → LabelStands s s' c.pos (length (label_taken s p).value)))
   label_went (Ok c) d h =
       so (label_at c d _ refl h) (λ u. (
         u.0,
         λ b e.
             let f : c ≡ b = cc in
-            subst (λ (x : Cursor). Stands s s' x.pos (length (label_taken s (Ok c)).value)) f u.1,
+            subst (λ (x : Cursor). LabelStands s s' x.pos (length (label_taken s (Ok c)).value)) f u.1,
       ))
   label_went (Err why) d h = let z : ◌≡◌ {A = ℕ} 0 1 = cc (label_refused why) in absurd (omega arith)

@@ -15,8 +15,8 @@ use Rattle.ui2d.specs.Parts.{colors_taken}
 use Rattle.alignment_fields.specs.Alignment.{alignment_taken}
 use Rattle.picture_fields.specs.Picture.{shape_taken, picture_taken, quads_of}
 use Rattle.reach.specs.Agrees.{Agrees}
-use Rattle.reach.proofs.Steps.{Reads, Took, Owned, told, so, on, owned, none}
-use Rattle.reach.proofs.Fields.{one, two, four, numbers_went, colors_went}
+use Rattle.reach.proofs.Steps.{Reads, Reading, Owned, told, so, on, owned, none}
+use Rattle.reach.proofs.Fields.{one, two, four, numbers_went, colors_went, stood}
 use Rattle.std.specs.Prelude.{Ok}
 
 module _ (lo r : ℕ) (s s' : List ℕ) (a : Agrees lo r s s') (order : ByteOrder) where
@@ -38,7 +38,7 @@ module _ (lo r : ℕ) (s s' : List ℕ) (a : Agrees lo r s s') (order : ByteOrde
   shape_width byte = cond (eqb byte 0) 0 4
 
   shape_by : (byte : ℕ) (b : Bool) → eqb byte 0 ≡ b → (p : Place) (d : Cursor) → (shape_taken order s p byte).then ≡ Ok d
-      → Took lo r (length s) (shape_width byte) p d (shape_taken order s' p byte ≡ shape_taken order s p byte)
+      → Reading lo r (length s) (shape_width byte) p d (shape_taken order s' p byte ≡ shape_taken order s p byte)
   unfolding shape_taken
   shape_by byte true f p d e = none _ (Reads _ (shape_width byte) d) (rw f at e) (rw f (record { reads = sym (advanced_zero d); room = λ h. absurd (omega arith) })) (rw f)
   shape_by byte false f p d e =
@@ -47,7 +47,7 @@ module _ (lo r : ℕ) (s s' : List ℕ) (a : Agrees lo r s s') (order : ByteOrde
 
   -- with the numbers of its quads
   pub picture_went : (body : ℕ) (p : Place) (d : Cursor) → (picture_taken order s p).then ≡ Ok d
-      → Owned lo r (length s) body 96 false p d ((picture_taken order s' p ≡ picture_taken order s p) × (quads_of order s' (picture_taken order s p) ≡ quads_of order s (picture_taken order s p)))
+      → Owned lo r (length s) body 96 false p d ((picture_taken order s' p ≡ picture_taken order s p) × (quads_of order s' (picture_taken order s p).value ≡ quads_of order s (picture_taken order s p).value))
   unfolding picture_taken quads_of
   picture_went body p d e =
       let p₁ : Place = (colors_taken order s p).then in
@@ -64,4 +64,4 @@ module _ (lo r : ℕ) (s s' : List ℕ) (a : Agrees lo r s s') (order : ByteOrde
       let w₂ = two lo r s s' a order p₁ w₃.from w₃.here in
       let w₁ = colors_went lo r s s' a order p w₂.from w₂.here in
       so (owned body 96 (omega arith) (omega arith) (on w₆ (on w₅ (on w₄ (on w₃ (on w₂ w₁))))))
-      (λ u. (rw (u.0.0.0.0.0, u.0.0.0.0.1, u.0.0.0.1, u.0.0.1, u.0.1, u.1), ap (λ t. t.value) u.0.1))
+      (λ u. (rw (u.0.0.0.0.0, u.0.0.0.0.1, u.0.0.0.1, u.0.0.1, u.0.1, u.1), rw (quads_of, stood p₄ w₅.from w₅.here) (ap (λ t. t.value) u.0.1)))

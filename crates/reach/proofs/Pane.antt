@@ -11,17 +11,17 @@ use Rattle.core_read.specs.declared.cursor.Cursor.{Cursor}
 use Rattle.ui2d.specs.Parts.{vector2_taken, vector3_taken}
 use Rattle.pane_read.specs.Pane.{pane_taken}
 use Rattle.reach.specs.Agrees.{Agrees}
-use Rattle.reach.proofs.Steps.{Took, so, on, string_went}
+use Rattle.reach.proofs.Steps.{Reading, so, on, string_went}
 use Rattle.reach.proofs.Fields.{one, vector2_went, vector3_went}
 use Rattle.std.specs.Prelude.{Ok}
 
 module _ (lo r : ℕ) (s s' : List ℕ) (a : Agrees lo r s s') (order : ByteOrder) where
   fixed_went : (n : ℕ) → 0 < n → (p : Place) (d : Cursor) → (fixed_string_taken n s p).then ≡ Ok d → d.pos < length s
-      → Took lo r (length s) n p d (fixed_string_taken n s' p ≡ fixed_string_taken n s p)
+      → Reading lo r (length s) n p d (fixed_string_taken n s' p ≡ fixed_string_taken n s p)
   unfolding fixed_string_taken
   fixed_went n z p d e k = so (string_went lo r s s' a n z p d e k) (λ u. rw u)
 
-  pub pane_went : (p : Place) (d : Cursor) → (pane_taken order s p).then ≡ Ok d → Took lo r (length s) 76 p d (pane_taken order s' p ≡ pane_taken order s p)
+  pub pane_went : (p : Place) (d : Cursor) → (pane_taken order s p).then ≡ Ok d → Reading lo r (length s) 76 p d (pane_taken order s' p ≡ pane_taken order s p)
   unfolding pane_taken
   pane_went p d e =
       let p₁ : Place = (number_taken order 1 s p).then in

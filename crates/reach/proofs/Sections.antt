@@ -16,8 +16,8 @@ use Rattle.core_read.proofs.Cursors.{start_advanced, pos_start, reach_start}
 use Rattle.core_read.proofs.Runs.{cleared}
 use Rattle.core_checks.proofs.Checked.{SectionOk, or_false}
 use Rattle.strip_header.specs.Header.{read_start, size_bad, header_taken, SectionAnswer}
+use Rattle.core_read.specs.Taken.{Taken}
 use Rattle.strip_header.specs.declared.Header.{Header}
-use Rattle.strip_header.specs.declared.Section.{Section}
 use Rattle.strip_header.specs.declared.Section.TheVariants as Sections
 use Rattle.strip_records.specs.Kinds.{kind_of, KindFound}
 use Rattle.strip_records.specs.Whole.{Lists, Full, blank_record}
@@ -134,12 +134,12 @@ header_seen order p r s s' a fit c e =
     }
 
 -- the section at p is a pane of this kind and size
-record Opens (order : ByteOrder) (s : List ℕ) (p : ℕ) (l : Lists) (h : Header) (kind : Kind) : Type 0 where
+record Opens (order : ByteOrder) (s : List ℕ) (p : ℕ) (l : Lists) (h : Taken Header) (kind : Kind) : Type 0 where
   begins : read_start (length s) p (length l.quads) (length l.units) (length l.lines) (length l.frames) ≡ Ok (start p)
   more : eqb p (length s) ≡ false
   header : header_taken order s p ≡ h
   body : h.then ≡ Ok (start (p + 8))
-  is : kind_of h.letters ≡ Some kind
+  is : kind_of h.value.letters ≡ Some kind
 
 -- what is seen of such a section, by what is seen of its body
 abbrev section_of : ℕ → ℕ → ℕ → BodySeen → SectionSeen
@@ -149,9 +149,9 @@ section_of end next reach b = record {
   label = b.label;
 }
 
-seen_as : (order : ByteOrder) (s : List ℕ) (p : ℕ) (l : Lists) (h : Header) (kind : Kind) → Opens order s p l h kind → (end reach : ℕ)
-    → (body_seen order kind (p + 8) (Some (p + h.size)) l s).read.answer ≡ Ok (record { pos = end; reach = reach })
-    → section_seen order p l s ≡ section_of end (p + h.size) reach (body_seen order kind (p + 8) (Some (p + h.size)) l s)
+seen_as : (order : ByteOrder) (s : List ℕ) (p : ℕ) (l : Lists) (h : Taken Header) (kind : Kind) → Opens order s p l h kind → (end reach : ℕ)
+    → (body_seen order kind (p + 8) (Some (p + h.value.size)) l s).read.answer ≡ Ok (record { pos = end; reach = reach })
+    → section_seen order p l s ≡ section_of end (p + h.value.size) reach (body_seen order kind (p + 8) (Some (p + h.value.size)) l s)
 unfolding read_section lists_after or_refused unless_refused read_at lists_at by_kind lists_by_kind read_body finished
 seen_as order s p l h kind o end reach e = rw (o.begins, o.more, o.header, o.body, o.is, e)
 
@@ -161,24 +161,24 @@ record Headed (order : ByteOrder) (s : List ℕ) (p : ℕ) (l : Lists) (x : Sect
   full : Full l
   more : eqb p (length s) ≡ false
   then : Through (header_taken order s p).then
-  rest : (by_kind order (kind_of (header_taken order s p).letters) s (header_taken order s p).then (p + 8) (p + (header_taken order s p).size)).answer ≡ x
+  rest : (by_kind order (kind_of (header_taken order s p).value.letters) s (header_taken order s p).then (p + 8) (p + (header_taken order s p).value.size)).answer ≡ x
 
 headed : (order : ByteOrder) (s : List ℕ) (p : ℕ) (l : Lists) (x : SectionAnswer) → Found x → (read_section order s p l).answer ≡ x → Headed order s p l x
 unfolding read_section read_at
 headed order s p l x g e =
-    let h : Header = header_taken order s p in
+    let h : Taken Header = header_taken order s p in
     let (t, e₁) = or_given _ (cond (eqb p (length s)) ended_with (read_at order s p)) x (found_given x g) e in
     let (m, e₂) = some_found (eqb p (length s)) (read_at order s p) x g e₁ in
-    let (v, e₃) = or_given h.then (by_kind order (kind_of h.letters) s h.then (p + 8) (p + h.size)) x (found_given x g) e₂ in
+    let (v, e₃) = or_given h.then (by_kind order (kind_of h.value.letters) s h.then (p + 8) (p + h.value.size)) x (found_given x g) e₂ in
     let (ok, full) = read_started (length s) p l t.cursor t.here in
     record { ok = ok; full = full; more = m; then = v; rest = e₃ }
 
 record Opened (order : ByteOrder) (s : List ℕ) (p : ℕ) (l : Lists) (end next reach : ℕ) : Type 0 where
-  header : Header
+  header : Taken Header
   kind : Kind
   opens : Opens order s p l header kind
-  read : (body_seen order kind (p + 8) (Some (p + header.size)) l s).read.answer ≡ Ok (record { pos = end; reach = reach })
-  size : p + header.size ≡ next
+  read : (body_seen order kind (p + 8) (Some (p + header.value.size)) l s).read.answer ≡ Ok (record { pos = end; reach = reach })
+  size : p + header.value.size ≡ next
   room : p + 8 ≤ length s
   whole : p % 4 ≡ 0
   small : p ≤ 16777216
@@ -194,11 +194,11 @@ body_pane order s k kind q c body next x n f g h e =
 opened : (order : ByteOrder) (s : List ℕ) (p : ℕ) (l : Lists) (end next reach : ℕ) → (read_section order s p l).answer ≡ Ok (Sections.Pane end next reach) → Opened order s p l end next reach
 unfolding Found
 opened order s p l end next reach e =
-    let h : Header = header_taken order s p in
+    let h : Taken Header = header_taken order s p in
     let t = headed order s p l (Ok (Sections.Pane end next reach)) tt e in
-    let k = kind_pane order (kind_of h.letters) s h.then (p + 8) (p + h.size) end next reach t.rest in
+    let k = kind_pane order (kind_of h.value.letters) s h.then (p + 8) (p + h.value.size) end next reach t.rest in
     let g = header_seen order p 0 s s (agrees_self p 0 s) t.ok.within t.then.cursor t.then.here in
-    let (r, n) = body_pane order s (kind_of h.letters) k.kind h.then (start (p + 8)) (p + 8) (p + h.size) end next reach k.is g.ends t.rest in
+    let (r, n) = body_pane order s (kind_of h.value.letters) k.kind h.then (start (p + 8)) (p + 8) (p + h.value.size) end next reach k.is g.ends t.rest in
     record {
       header = h;
       kind = k.kind;
@@ -216,7 +216,7 @@ opens_still : (order : ByteOrder) (s s' : List ℕ) (p : ℕ) (l : Lists) (end n
     → length s' ≤ 16777216 → Opens order s' p l o.header o.kind
 opens_still order s s' p l end next reach o a far small =
     let b = o.opens in
-    let g = header_seen order p reach s s' a (omega (arith, o.room)) (start (p + 8)) (ap (λ (h : Header). h.then) b.header ∙ b.body) in
+    let g = header_seen order p reach s s' a (omega (arith, o.room)) (start (p + 8)) (ap (λ (h : Taken Header). h.then) b.header ∙ b.body) in
     record {
       begins = start_good (length s') p l (record { most = small; within = omega (arith, o.room, a.long); whole = o.whole }) o.full;
       more = ne_eqb p (length s') (λ e. omega (arith, o.room, a.long, e));
@@ -253,10 +253,10 @@ kind_no_end order None s q body next e = let z : ◌≡◌ {A = ℕ} 0 1 = cc in
 end_not : (order : ByteOrder) (s : List ℕ) (p : ℕ) (l : Lists) → (p ≡ length s → ⊥) → (read_section order s p l).answer ≡ Ok Sections.End → ⊥
 unfolding read_section read_at Given
 end_not order s p l n e =
-    let h : Header = header_taken order s p in
+    let h : Taken Header = header_taken order s p in
     let e₁ = (or_given _ (cond (eqb p (length s)) ended_with (read_at order s p)) (Ok Sections.End) tt e).1 in
     let e₂ : (read_at order s p).answer ≡ Ok Sections.End = rw (ne_eqb p (length s) n) at e₁ in
-    kind_no_end order (kind_of h.letters) s h.then (p + 8) (p + h.size) (or_given h.then _ (Ok Sections.End) tt e₂).1
+    kind_no_end order (kind_of h.value.letters) s h.then (p + 8) (p + h.value.size) (or_given h.then _ (Ok Sections.End) tt e₂).1
 
 -- a section that is passed is of no kind, and is passed in every buffer that has its header
 kind_passed : (order : ByteOrder) (k : KindFound) (s : List ℕ) (q : Place) (body next n : ℕ) → (by_kind order k s q body next).answer ≡ Ok (Sections.Passed n) → k ≡ None
@@ -266,9 +266,9 @@ kind_passed order (Some kind) s q body next n e =
     absurd ((body_not b.answer b.«record» next).0 n e)
 kind_passed order None s q body next n e = refl
 
-passed_as : (order : ByteOrder) (s : List ℕ) (p : ℕ) (l : Lists) (h : Header) → SectionOk (length s) p → Full l → eqb p (length s) ≡ false → header_taken order s p ≡ h
-    → h.then ≡ Ok (start (p + 8)) → kind_of h.letters ≡ None
-    → ◌≡◌ {A = SectionSeen} (section_seen order p l s) (record { read = passed_with (p + h.size); lists = l; label = [] })
+passed_as : (order : ByteOrder) (s : List ℕ) (p : ℕ) (l : Lists) (h : Taken Header) → SectionOk (length s) p → Full l → eqb p (length s) ≡ false → header_taken order s p ≡ h
+    → h.then ≡ Ok (start (p + 8)) → kind_of h.value.letters ≡ None
+    → ◌≡◌ {A = SectionSeen} (section_seen order p l s) (record { read = passed_with (p + h.value.size); lists = l; label = [] })
 unfolding read_section lists_after or_refused unless_refused read_at lists_at by_kind lists_by_kind passed_with blank_record
 passed_as order s p l h ok full more e then is = rw (start_good (length s) p l ok full, more, e, then, is)
 
@@ -281,8 +281,8 @@ module _ (order : ByteOrder) (p : ℕ) (l : Lists) where
   section_bounds s end next reach e =
       let o = opened order s p l end next reach e in
       let x = seen_as order s p l o.header o.kind o.opens end reach o.read in
-      let k : (section_seen order p l s).read.«record».kind ≡ o.kind = ap (λ (v : SectionSeen). v.read.«record».kind) x ∙ kind_read order o.kind s (Ok (start (p + 8))) (p + 8) (Some (p + o.header.size)) in
-      subst (λ (z : Kind). Bounds z (p + 8) (length s) end reach) (sym k) (bounds order o.kind (p + 8) (Some (p + o.header.size)) l s end reach o.read)
+      let k : (section_seen order p l s).read.«record».kind ≡ o.kind = ap (λ (v : SectionSeen). v.read.«record».kind) x ∙ kind_read order o.kind s (Ok (start (p + 8))) (p + 8) (Some (p + o.header.value.size)) in
+      subst (λ (z : Kind). Bounds z (p + 8) (length s) end reach) (sym k) (bounds order o.kind (p + 8) (Some (p + o.header.value.size)) l s end reach o.read)
 
   -- THE PART THAT A SECTION NEEDED: the bytes of [P, reach) decide the read. Another buffer, no shorter and no longer than check 1 lets through, that
   -- has these bytes there gives the same answer, record, lists and label
@@ -292,11 +292,11 @@ module _ (order : ByteOrder) (p : ℕ) (l : Lists) where
       let o = opened order s p l end next reach e in
       let far : p + 8 ≤ reach = omega (arith, (section_bounds s end next reach e).fixed) in
       let i : p + 8 - 8 ≡ p = omega arith in
-      let n = needed order o.kind (p + 8) (Some (p + o.header.size)) l s s' end reach o.read (rw i a) in
+      let n = needed order o.kind (p + 8) (Some (p + o.header.value.size)) l s s' end reach o.read (rw i a) in
       let x = seen_as order s p l o.header o.kind o.opens end reach o.read in
       let y = seen_as order s' p l o.header o.kind (opens_still order s s' p l end next reach o a far small) end reach
       (ap (λ (b : BodySeen). b.read.answer) n ∙ o.read) in
-      y ∙ ap (section_of end (p + o.header.size) reach) n ∙ sym x
+      y ∙ ap (section_of end (p + o.header.value.size) reach) n ∙ sym x
 
   -- A PANE THAT IS READ KEEPS TO ITS SECTION
   pub section_keeps : (s : List ℕ) (end next reach : ℕ) → IsPane s end next reach → reach ≤ next
@@ -320,12 +320,12 @@ module _ (order : ByteOrder) (p : ℕ) (l : Lists) where
       → section_seen order p l (s ++ more) ≡ section_seen order p l s
   unfolding Found
   passed_extends s more next e small =
-      let h : Header = header_taken order s p in
+      let h : Taken Header = header_taken order s p in
       let t = headed order s p l (Ok (Sections.Passed next)) tt e in
       let g = header_seen order p 0 s s (agrees_self p 0 s) t.ok.within t.then.cursor t.then.here in
       let a = agrees_longer p (p + 8) s more g.room in
       let g' = header_seen order p (p + 8) s (s ++ more) a t.ok.within t.then.cursor t.then.here in
-      let is = kind_passed order (kind_of h.letters) s h.then (p + 8) (p + h.size) next t.rest in
+      let is = kind_passed order (kind_of h.value.letters) s h.then (p + 8) (p + h.value.size) next t.rest in
       let ok : SectionOk (length (s ++ more)) p = record { most = small; within = omega (arith, g.room, a.long); whole = t.ok.whole } in
       let on = ne_eqb p (length (s ++ more)) (λ z. omega (arith, g.room, a.long, z)) in
       passed_as order (s ++ more) p l h ok t.full on (g'.same (omega arith)) g.ends is ∙ sym (passed_as order s p l h t.ok t.full t.more refl g.ends is)
@@ -344,7 +344,7 @@ module _ (order : ByteOrder) (p : ℕ) (l : Lists) where
       let h = header_seen order p n (take n s) s (agrees_take p n n s (omega arith)) t.ok.within t.then.cursor t.then.here in
       let o = opened order s p l end next reach e in
       let same : header_taken order s p ≡ header_taken order (take n s) p = h.same (omega (arith, h.room, length-take n s)) in
-      let k : kind_of (header_taken order (take n s) p).letters ≡ Some o.kind = rw (← same, o.opens.header) o.opens.is in
+      let k : kind_of (header_taken order (take n s) p).value.letters ≡ Some o.kind = rw (← same, o.opens.header) o.opens.is in
       absurd (kind_not order (take n s) _ o.kind _ (p + 8) _ to k t.rest)
   section_cut_by s end next reach n e other m (Ok (Sections.Pane end' next' reach')) g =
       let t = length-take n s in

@@ -23,7 +23,7 @@ use Rattle.std.specs.Prelude.{Err, Ok}
 
 -- A step came to d from a cursor of p, in this manner, and looked no less far than the run before it, within the n bytes of s. Where p stands at lo or
 -- above, so does d, and where the run looked no farther than r, the step gives the same of s'
-pub record Went (lo r n : ℕ) (How : Cursor → Type 0) (p : Place) (d : Cursor) (Same : Type 0) : Type 0 where
+pub record Leads (lo r n : ℕ) (How : Cursor → Type 0) (p : Place) (d : Cursor) (Same : Type 0) : Type 0 where
   pub from : Cursor
   pub here : p ≡ Ok from
   pub how : How from
@@ -37,23 +37,23 @@ pub record Reads (n w : ℕ) (d c : Cursor) : Type 0 where
   pub reads : d ≡ advanced c w
   pub room : 0 < w → c.pos + w ≤ n
 
-abbrev pub Took : ℕ → ℕ → ℕ → ℕ → Place → Cursor → Type 0 → Type 0
-Took lo r n w p d Same = Went lo r n (Reads n w d) p d Same
+abbrev pub Reading : ℕ → ℕ → ℕ → ℕ → Place → Cursor → Type 0 → Type 0
+Reading lo r n w p d Same = Leads lo r n (Reads n w d) p d Same
 
 -- it was set to a place within the n bytes
 abbrev pub Sought : ℕ → ℕ → ℕ → ℕ → Place → Cursor → Type 0 → Type 0
-Sought lo r n to p d Same = Went lo r n (λ (c : Cursor). (d.pos ≡ to) × (to ≤ n)) p d Same
+Sought lo r n to p d Same = Leads lo r n (λ (c : Cursor). (d.pos ≡ to) × (to ≤ n)) p d Same
 
 -- the w bytes from where it stood are among those read
 pub record Covers (w : ℕ) (d c : Cursor) : Type 0 where
   pub covers : c.pos + w ≤ d.reach
 
 abbrev pub Far : ℕ → ℕ → ℕ → ℕ → Place → Cursor → Type 0 → Type 0
-Far lo r n w p d Same = Went lo r n (Covers w d) p d Same
+Far lo r n w p d Same = Leads lo r n (Covers w d) p d Same
 
 -- it was set to places, and at last to h, or not at all
 abbrev pub Home : ℕ → ℕ → ℕ → ℕ → Place → Cursor → Type 0 → Type 0
-Home lo r n h p d Same = Went lo r n (λ (c : Cursor). c.pos ≡ h → d.pos ≡ h) p d Same
+Home lo r n h p d Same = Leads lo r n (λ (c : Cursor). c.pos ≡ h → d.pos ≡ h) p d Same
 
 -- what a kind has beyond the base was read: a body at B whose fixed bytes are k; these lie below the reach, and the end is not past it. Where nothing was
 -- sought, a run that has looked as far as it stands still does
@@ -62,23 +62,23 @@ pub record Owns (body k : ℕ) (sought : Bool) (d c : Cursor) : Type 0 where
   pub level : sought ≡ false → c.reach ≡ c.pos → d.reach ≡ d.pos
 
 abbrev pub Owned : ℕ → ℕ → ℕ → ℕ → ℕ → Bool → Place → Cursor → Type 0 → Type 0
-Owned lo r n body k sought p d Same = Went lo r n (Owns body k sought d) p d Same
+Owned lo r n body k sought p d Same = Leads lo r n (Owns body k sought d) p d Same
 
 -- anything
 abbrev pub Some : ℕ → ℕ → ℕ → Place → Cursor → Type 0 → Type 0
-Some lo r n p d Same = Went lo r n (λ (c : Cursor). Unit {0}) p d Same
+Some lo r n p d Same = Leads lo r n (λ (c : Cursor). Unit {0}) p d Same
 
 -- the same step, told otherwise
-pub told : {lo r n : ℕ} {p : Place} {d : Cursor} {X : Type 0} {Was : Cursor → Type 0} (x : Went lo r n Was p d X) (How : Cursor → Type 0) → How x.from → Went lo r n How p d X
+pub told : {lo r n : ℕ} {p : Place} {d : Cursor} {X : Type 0} {Was : Cursor → Type 0} (x : Leads lo r n Was p d X) (How : Cursor → Type 0) → How x.from → Leads lo r n How p d X
 told x How h = record { from = x.from; here = x.here; how = h; grows = x.grows; within = x.within; low = x.low; same = x.same }
 
 -- and what it gives
-pub so : {lo r n : ℕ} {p : Place} {d : Cursor} {X Y : Type 0} {How : Cursor → Type 0} → Went lo r n How p d X → (X → Y) → Went lo r n How p d Y
+pub so : {lo r n : ℕ} {p : Place} {d : Cursor} {X Y : Type 0} {How : Cursor → Type 0} → Leads lo r n How p d X → (X → Y) → Leads lo r n How p d Y
 so x f = record { from = x.from; here = x.here; how = x.how; grows = x.grows; within = x.within; low = x.low; same = λ l m. f (x.same l m) }
 
 -- a step y after another, x
-pub after : {lo r n : ℕ} {p q : Place} {d : Cursor} {X Y : Type 0} {A B : Cursor → Type 0} (y : Went lo r n B q d Y) (x : Went lo r n A p y.from X) (How : Cursor → Type 0)
-    → How x.from → Went lo r n How p d (X × Y)
+pub after : {lo r n : ℕ} {p q : Place} {d : Cursor} {X Y : Type 0} {A B : Cursor → Type 0} (y : Leads lo r n B q d Y) (x : Leads lo r n A p y.from X) (How : Cursor → Type 0)
+    → How x.from → Leads lo r n How p d (X × Y)
 after y x How h = record {
   from = x.from;
   here = x.here;
@@ -100,20 +100,20 @@ reads_on {n} {a} {b} {c} x y = record {
   room = room_on n a b c.pos x.room (λ h. rw (x.reads, pos_advanced) at (y.room h));
 }
 
-pub on : {lo r n a b : ℕ} {p q : Place} {d : Cursor} {X Y : Type 0} (y : Took lo r n b q d Y) → Took lo r n a p y.from X → Took lo r n (a + b) p d (X × Y)
+pub on : {lo r n a b : ℕ} {p q : Place} {d : Cursor} {X Y : Type 0} (y : Reading lo r n b q d Y) → Reading lo r n a p y.from X → Reading lo r n (a + b) p d (X × Y)
 on {a = a} {b = b} {d = d} y x = after y x (Reads _ (a + b) d) (reads_on x.how y.how)
 
 -- what was read stays so
-pub took_covers : {lo r n w : ℕ} {p : Place} {d : Cursor} {X : Type 0} → 0 < w → (x : Took lo r n w p d X) → x.from.pos + w ≤ d.reach
+pub took_covers : {lo r n w : ℕ} {p : Place} {d : Cursor} {X : Type 0} → 0 < w → (x : Reading lo r n w p d X) → x.from.pos + w ≤ d.reach
 took_covers {w = w} h x = subst (λ (e : Cursor). x.from.pos + w ≤ e.reach) (sym x.how.reads) (reach_covers x.from w h)
 
-pub far : {lo r n w : ℕ} {p : Place} {d : Cursor} {X : Type 0} → 0 < w → Took lo r n w p d X → Far lo r n w p d X
+pub far : {lo r n w : ℕ} {p : Place} {d : Cursor} {X : Type 0} → 0 < w → Reading lo r n w p d X → Far lo r n w p d X
 far {w = w} {d = d} h x = told x (Covers w d) (record { covers = took_covers h x })
 
-pub past : {lo r n w : ℕ} {p q : Place} {d : Cursor} {X Y : Type 0} {B : Cursor → Type 0} (y : Went lo r n B q d Y) → Far lo r n w p y.from X → Far lo r n w p d (X × Y)
+pub past : {lo r n w : ℕ} {p q : Place} {d : Cursor} {X Y : Type 0} {B : Cursor → Type 0} (y : Leads lo r n B q d Y) → Far lo r n w p y.from X → Far lo r n w p d (X × Y)
 past {w = w} {d = d} y x = after y x (Covers w d) (record { covers = omega (arith, x.how.covers, y.grows) })
 
-pub any : {lo r n : ℕ} {p q : Place} {d : Cursor} {X Y : Type 0} {A B : Cursor → Type 0} (y : Went lo r n B q d Y) → Went lo r n A p y.from X → Some lo r n p d (X × Y)
+pub any : {lo r n : ℕ} {p q : Place} {d : Cursor} {X Y : Type 0} {A B : Cursor → Type 0} (y : Leads lo r n B q d Y) → Leads lo r n A p y.from X → Some lo r n p d (X × Y)
 any y x = after y x (λ (c : Cursor). Unit {0}) tt
 
 -- with no seek
@@ -123,7 +123,7 @@ read_owns {n} {w} {c} body k h m x =
     let e = pos_advanced c w in
     rw x.reads (record { owns = λ f. (omega (arith, v, f), omega (arith, v, e)); level = λ b f. reach_level c f w ∙ sym e })
 
-pub owned : {lo r n w : ℕ} {p : Place} {d : Cursor} {X : Type 0} (body k : ℕ) → 0 < w → k ≤ 76 + w → Took lo r n w p d X → Owned lo r n body k false p d X
+pub owned : {lo r n w : ℕ} {p : Place} {d : Cursor} {X : Type 0} (body k : ℕ) → 0 < w → k ≤ 76 + w → Reading lo r n w p d X → Owned lo r n body k false p d X
 owned {d = d} body k h m x = told x (Owns body k false d) (read_owns body k h m x.how)
 
 -- with seeks
@@ -131,7 +131,7 @@ pub owns_sought : (body k : ℕ) (c d : Cursor) → (c.pos ≡ body + 76 → (bo
 owns_sought body k c d f = record { owns = f; level = λ b. let z : ◌≡◌ {A = ℕ} 0 1 = cc in absurd (omega arith) }
 
 -- a step that reads nothing, and moves nothing
-pub none : {lo r n : ℕ} {p : Place} {d : Cursor} (Same : Type 0) (How : Cursor → Type 0) → p ≡ Ok d → How d → Same → Went lo r n How p d Same
+pub none : {lo r n : ℕ} {p : Place} {d : Cursor} (Same : Type 0) (How : Cursor → Type 0) → p ≡ Ok d → How d → Same → Leads lo r n How p d Same
 none {d = d} Same How e h x = record { from = d; here = e; how = h; grows = omega arith; within = λ l. l; low = λ l. l; same = λ l m. x }
 
 module _ (lo r : ℕ) (s s' : List ℕ) (a : Agrees lo r s s') where
@@ -144,7 +144,7 @@ module _ (lo r : ℕ) (s s' : List ℕ) (a : Agrees lo r s s') where
       rw (drop-cons s at 0 h, drop-cons s' at 0 h', a.same at l (omega arith)) (ap (λ (t : List ℕ). get_or s' at 0 ∷ t) (part_same w (suc at) (omega arith) (omega arith) (omega arith)))
 
   -- w bytes read at c, within s: what follows of the bytes that are the same
-  pub took : (w : ℕ) (c d : Cursor) (Same : Type 0) → 0 < w → c.pos + w ≤ length s → advanced c w ≡ d → (lo ≤ c.pos → c.pos + w ≤ r → Same) → Took lo r (length s) w (Ok c) d Same
+  pub took : (w : ℕ) (c d : Cursor) (Same : Type 0) → 0 < w → c.pos + w ≤ length s → advanced c w ≡ d → (lo ≤ c.pos → c.pos + w ≤ r → Same) → Reading lo r (length s) w (Ok c) d Same
   took w c d Same n fit j f =
       let far = rw j at (reach_covers c w n) in
       record {
@@ -160,7 +160,7 @@ module _ (lo r : ℕ) (s s' : List ℕ) (a : Agrees lo r s s') where
   -- ---- a number
 
   number_went_by : (order : ByteOrder) (w : ℕ) → 0 < w → (c d : Cursor) (b : Bool) → leb (c.pos + w) (length s) ≡ b → (number_taken order w s (Ok c)).then ≡ Ok d
-      → Took lo r (length s) w (Ok c) d (number_taken order w s' (Ok c) ≡ number_taken order w s (Ok c))
+      → Reading lo r (length s) w (Ok c) d (number_taken order w s' (Ok c) ≡ number_taken order w s (Ok c))
   unfolding number_at
   number_went_by order w n c d true e h =
       let fit : c.pos + w ≤ length s = leb-true (c.pos + w) (length s) e in
@@ -173,7 +173,7 @@ module _ (lo r : ℕ) (s s' : List ℕ) (a : Agrees lo r s s') where
       let z : ◌≡◌ {A = ℕ} 0 1 = cc (short order w s (Ok c) c refl (leb-false (c.pos + w) (length s) e)) in absurd (omega arith)
 
   pub number_went : (order : ByteOrder) (w : ℕ) → 0 < w → (p : Place) (d : Cursor) → (number_taken order w s p).then ≡ Ok d
-      → Took lo r (length s) w p d (number_taken order w s' p ≡ number_taken order w s p)
+      → Reading lo r (length s) w p d (number_taken order w s' p ≡ number_taken order w s p)
   number_went order w n (Ok c) d h = number_went_by order w n c d (leb (c.pos + w) (length s)) refl h
   number_went order w n (Err why) d h = let z : ◌≡◌ {A = ℕ} 0 1 = cc (stays order w s (Err why) why refl) in absurd (omega arith)
 
@@ -193,7 +193,7 @@ module _ (lo r : ℕ) (s s' : List ℕ) (a : Agrees lo r s s') where
   string_none w c h = rw (le-ltb c.pos (length s) h)
 
   string_by : (w : ℕ) → 0 < w → (c d : Cursor) (b : Bool) → ltb c.pos (length s) ≡ b → (string_taken w s (Ok c)).then ≡ Ok d → d.pos < length s
-      → Took lo r (length s) w (Ok c) d (string_taken w s' (Ok c) ≡ string_taken w s (Ok c))
+      → Reading lo r (length s) w (Ok c) d (string_taken w s' (Ok c) ≡ string_taken w s (Ok c))
   unfolding string_taken
   string_by w n c d true e h k =
       let at : c.pos < length s = ltb-true c.pos (length s) e in
@@ -212,7 +212,7 @@ module _ (lo r : ℕ) (s s' : List ℕ) (a : Agrees lo r s s') where
   string_refused w why = refl
 
   pub string_went : (w : ℕ) → 0 < w → (p : Place) (d : Cursor) → (string_taken w s p).then ≡ Ok d → d.pos < length s
-      → Took lo r (length s) w p d (string_taken w s' p ≡ string_taken w s p)
+      → Reading lo r (length s) w p d (string_taken w s' p ≡ string_taken w s p)
   string_went w n (Ok c) d h k = string_by w n c d (ltb c.pos (length s)) refl h k
   string_went w n (Err why) d h k = let z : ◌≡◌ {A = ℕ} 0 1 = cc (string_refused w why) in absurd (omega arith)
 

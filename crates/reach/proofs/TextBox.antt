@@ -16,12 +16,12 @@ use Rattle.ui2d.specs.Parts.{color_taken, vector2_taken}
 use Rattle.text_box_fixed.specs.Fixed.{head_taken, font_taken, shadow_taken}
 use Rattle.text_box_parts.specs.Parts.{place_of, text_at, text_taken, lines_at, lines_taken, units_of, lines_of}
 use Rattle.reach.specs.Agrees.{Agrees}
-use Rattle.reach.proofs.Steps.{Took, Home, so, after, on, any, none, seek_went}
+use Rattle.reach.proofs.Steps.{Reading, Home, so, after, on, any, none, seek_went}
 use Rattle.reach.proofs.Fields.{one, two, four, numbers_went, color_went, vector2_went, room_after, stand_same}
 use Rattle.std.specs.Prelude.{Ok}
 
 module _ (lo r : ℕ) (s s' : List ℕ) (a : Agrees lo r s s') (order : ByteOrder) where
-  pub head_went : (p : Place) (d : Cursor) → (head_taken order s p).then ≡ Ok d → Took lo r (length s) 16 p d (head_taken order s' p ≡ head_taken order s p)
+  pub head_went : (p : Place) (d : Cursor) → (head_taken order s p).then ≡ Ok d → Reading lo r (length s) 16 p d (head_taken order s' p ≡ head_taken order s p)
   unfolding head_taken
   head_went p d e =
       let p₁ : Place = (number_taken order 2 s p).then in
@@ -41,7 +41,7 @@ module _ (lo r : ℕ) (s s' : List ℕ) (a : Agrees lo r s s') (order : ByteOrde
       so (on w₈ (on w₇ (on w₆ (on w₅ (on w₄ (on w₃ (on w₂ w₁)))))))
       (λ u. rw (u.0.0.0.0.0.0.0, u.0.0.0.0.0.0.1, u.0.0.0.0.0.1, u.0.0.0.0.1, u.0.0.0.1, u.0.0.1, u.0.1, u.1))
 
-  pub font_went : (p : Place) (d : Cursor) → (font_taken order s p).then ≡ Ok d → Took lo r (length s) 32 p d (font_taken order s' p ≡ font_taken order s p)
+  pub font_went : (p : Place) (d : Cursor) → (font_taken order s p).then ≡ Ok d → Reading lo r (length s) 32 p d (font_taken order s' p ≡ font_taken order s p)
   unfolding font_taken
   font_went p d e =
       let p₁ : Place = (number_taken order 4 s p).then in
@@ -59,7 +59,7 @@ module _ (lo r : ℕ) (s s' : List ℕ) (a : Agrees lo r s s') (order : ByteOrde
       so (on w₇ (on w₆ (on w₅ (on w₄ (on w₃ (on w₂ w₁))))))
       (λ u. rw (u.0.0.0.0.0.0, u.0.0.0.0.0.1, u.0.0.0.0.1, u.0.0.0.1, u.0.0.1, u.0.1, u.1))
 
-  pub shadow_went : (p : Place) (d : Cursor) → (shadow_taken order s p).then ≡ Ok d → Took lo r (length s) 36 p d (shadow_taken order s' p ≡ shadow_taken order s p)
+  pub shadow_went : (p : Place) (d : Cursor) → (shadow_taken order s p).then ≡ Ok d → Reading lo r (length s) 36 p d (shadow_taken order s' p ≡ shadow_taken order s p)
   unfolding shadow_taken
   shadow_went p d e =
       let p₁ : Place = (vector2_taken order s p).then in
@@ -82,8 +82,8 @@ module _ (lo r : ℕ) (s s' : List ℕ) (a : Agrees lo r s s') (order : ByteOrde
   -- with the units
   pub text_by : (body offset long : ℕ) → lo ≤ body - 8 → (b : Bool) → eqb offset 0 ≡ b → (p : Place) (d : Cursor) → (text_taken order s p body offset long).then ≡ Ok d
       → Home lo r (length s) (body + 160) p d ((text_taken order s' p body offset long ≡ text_taken order s p body offset long)
-      × (units_of (text_taken order s p body offset long).text (numbers_at order 2 (long / 2) s' (text_taken order s p body offset long).place)
-      ≡ units_of (text_taken order s p body offset long).text (numbers_at order 2 (long / 2) s (text_taken order s p body offset long).place)))
+      × (units_of (text_taken order s p body offset long).value.text (numbers_at order 2 (long / 2) s' (text_taken order s p body offset long).value.place)
+      ≡ units_of (text_taken order s p body offset long).value.text (numbers_at order 2 (long / 2) s (text_taken order s p body offset long).value.place)))
   unfolding text_taken text_at
   text_by body offset long l true f p d e = none _ (λ (c : Cursor). c.pos ≡ body + 160 → d.pos ≡ body + 160) (rw f at e) (λ k. k) (rw f (refl, refl))
   text_by body offset long l false f p d e =
@@ -100,8 +100,8 @@ module _ (lo r : ℕ) (s s' : List ℕ) (a : Agrees lo r s s') (order : ByteOrde
   -- with the offsets and widths
   pub lines_by : (body offset : ℕ) (line : Bool) → lo ≤ body - 8 → (b : Bool) → (line && not (eqb offset 0)) ≡ b → (p : Place) (d : Cursor) → (lines_taken order s p body line offset).then ≡ Ok d
       → Home lo r (length s) (body + 160) p d ((lines_taken order s' p body line offset ≡ lines_taken order s p body line offset)
-      × (lines_of order s' (lines_taken order s p body line offset).line_table (lines_taken order s p body line offset).place
-      ≡ lines_of order s (lines_taken order s p body line offset).line_table (lines_taken order s p body line offset).place))
+      × (lines_of order s' (lines_taken order s p body line offset).value.table (lines_taken order s p body line offset).value.place
+      ≡ lines_of order s (lines_taken order s p body line offset).value.table (lines_taken order s p body line offset).value.place))
   unfolding lines_taken lines_at
   lines_by body offset line l false f p d e = none _ (λ (c : Cursor). c.pos ≡ body + 160 → d.pos ≡ body + 160) (rw f at e) (λ k. k) (rw f (refl, refl))
   lines_by body offset line l true f p d e =

@@ -7,7 +7,7 @@ use mathlib.Core.List.{List, [], ◌∷◌}
 use lib.ListN.{length}
 use lib.Dec.{lit≤}
 use Rattle.core_read.specs.Taken.{number_taken, sought, Place}
-use Rattle.core_read.specs.declared.cursor.Taken.{Taken}
+use Rattle.core_read.specs.Taken.{Taken}
 use Rattle.core_read.specs.Lists.{numbers_taken}
 use Rattle.core_read.specs.declared.cursor.ByteOrder.{ByteOrder}
 use Rattle.core_read.specs.declared.cursor.Cursor.{Cursor}
@@ -17,8 +17,8 @@ use Rattle.window_head.specs.declared.WindowHead.{WindowHead}
 use Rattle.window_read.specs.Window.{content_taken, frame_taken, frames_taken, window_taken, window_quads, window_frames, window_of}
 use Rattle.window_read.specs.declared.WindowContent.{WindowContent}
 use Rattle.reach.specs.Agrees.{Agrees}
-use Rattle.reach.proofs.Steps.{Took, Owns, Owned, Some, told, so, on, far, past, any, none, owns_sought, seek_went}
-use Rattle.reach.proofs.Fields.{one, two, four, numbers_went, colors_went}
+use Rattle.reach.proofs.Steps.{Reading, Owns, Owned, Some, told, so, on, far, past, any, none, owns_sought, seek_went}
+use Rattle.reach.proofs.Fields.{one, two, four, numbers_went, colors_went, stood}
 use Rattle.std.specs.Prelude.{Ok}
 
 -- after the head the run goes home
@@ -26,7 +26,7 @@ window_ends : (body : ℕ) (c d : Cursor) → c.pos + 28 ≤ d.reach → d.pos �
 window_ends body c d g h = owns_sought body 104 c d (λ e. (omega (arith, g, e), omega (arith, g, e, h)))
 
 module _ (lo r : ℕ) (s s' : List ℕ) (a : Agrees lo r s s') (order : ByteOrder) where
-  sides_went : (p : Place) (d : Cursor) → (sides_taken order s p).then ≡ Ok d → Took lo r (length s) 8 p d (sides_taken order s' p ≡ sides_taken order s p)
+  sides_went : (p : Place) (d : Cursor) → (sides_taken order s p).then ≡ Ok d → Reading lo r (length s) 8 p d (sides_taken order s' p ≡ sides_taken order s p)
   unfolding sides_taken
   sides_went p d e =
       let p₁ : Place = (number_taken order 2 s p).then in
@@ -37,7 +37,7 @@ module _ (lo r : ℕ) (s s' : List ℕ) (a : Agrees lo r s s') (order : ByteOrde
       let w₁ = two lo r s s' a order p w₂.from w₂.here in
       so (on w₄ (on w₃ (on w₂ w₁))) (λ u. rw (u.0.0.0, u.0.0.1, u.0.1, u.1))
 
-  head_went : (p : Place) (d : Cursor) → (head_taken order s p).then ≡ Ok d → Took lo r (length s) 28 p d (head_taken order s' p ≡ head_taken order s p)
+  head_went : (p : Place) (d : Cursor) → (head_taken order s p).then ≡ Ok d → Reading lo r (length s) 28 p d (head_taken order s' p ≡ head_taken order s p)
   unfolding head_taken
   head_went p d e =
       let p₁ : Place = (sides_taken order s p).then in
@@ -55,7 +55,7 @@ module _ (lo r : ℕ) (s s' : List ℕ) (a : Agrees lo r s s') (order : ByteOrde
       so (on w₇ (on w₆ (on w₅ (on w₄ (on w₃ (on w₂ w₁))))))
       (λ u. rw (u.0.0.0.0.0.0, u.0.0.0.0.0.1, u.0.0.0.0.1, u.0.0.0.1, u.0.0.1, u.0.1, u.1))
 
-  content_went : (p : Place) (d : Cursor) → (content_taken order s p).then ≡ Ok d → Took lo r (length s) 20 p d (content_taken order s' p ≡ content_taken order s p)
+  content_went : (p : Place) (d : Cursor) → (content_taken order s p).then ≡ Ok d → Reading lo r (length s) 20 p d (content_taken order s' p ≡ content_taken order s p)
   unfolding content_taken
   content_went p d e =
       let p₁ : Place = (colors_taken order s p).then in
@@ -66,7 +66,7 @@ module _ (lo r : ℕ) (s s' : List ℕ) (a : Agrees lo r s s') (order : ByteOrde
       let w₁ = colors_went lo r s s' a order p w₂.from w₂.here in
       so (on w₄ (on w₃ (on w₂ w₁))) (λ u. rw (u.0.0.0, u.0.0.1, u.0.1, u.1))
 
-  frame_went : (p : Place) (d : Cursor) → (frame_taken order s p).then ≡ Ok d → Took lo r (length s) 4 p d (frame_taken order s' p ≡ frame_taken order s p)
+  frame_went : (p : Place) (d : Cursor) → (frame_taken order s p).then ≡ Ok d → Reading lo r (length s) 4 p d (frame_taken order s' p ≡ frame_taken order s p)
   unfolding frame_taken
   frame_went p d e =
       let p₁ : Place = (number_taken order 2 s p).then in
@@ -90,8 +90,8 @@ module _ (lo r : ℕ) (s s' : List ℕ) (a : Agrees lo r s s') (order : ByteOrde
   pub window_went : (body : ℕ) → lo ≤ body - 8 → (p : Place) (d : Cursor) → (window_taken order s p body).then ≡ Ok d
       → Owned lo r (length s) body 104 true p d
       ((window_taken order s' p body ≡ window_taken order s p body)
-      × (window_quads order s' (window_taken order s p body) ≡ window_quads order s (window_taken order s p body))
-      × (window_frames order s' (window_taken order s p body) body ≡ window_frames order s (window_taken order s p body) body))
+      × (window_quads order s' (window_taken order s p body).value ≡ window_quads order s (window_taken order s p body).value)
+      × (window_frames order s' (window_taken order s p body).value body ≡ window_frames order s (window_taken order s p body).value body))
   unfolding window_taken window_quads window_frames window_of
   window_went body l p d e =
       let h : WindowHead = (head_taken order s p).value in
@@ -116,6 +116,7 @@ module _ (lo r : ℕ) (s s' : List ℕ) (a : Agrees lo r s s') (order : ByteOrde
       so (told z (Owns body 104 true d) ends)
       (λ u. (
         rw (u.0.0.0.0.0.0.0, u.0.0.0.0.0.0.1, u.0.0.0.0.0.1, u.0.0.0.0.1, u.0.0.0.1, u.0.0.1, u.0.1, u.1),
-        ap (λ x. x.value) u.0.0.0.0.1,
-        ap (λ (x : Taken (List ℕ)). (frames_taken order s' (body - 8) x.value p₆).value) u.0.0.1 ∙ ap (λ x. x.value) u.0.1,
+        rw (window_quads, stood p₃ w₄.from w₄.here) (ap (λ x. x.value) u.0.0.0.0.1),
+        rw (window_frames, stood p₅ w₆.from w₆.here)
+            (ap (λ (x : Taken (List ℕ)). (frames_taken order s' (body - 8) x.value x.then).value) u.0.0.1 ∙ ap (λ x. x.value) u.0.1),
       ))

@@ -1,7 +1,6 @@
 -- Where the figures of an accepted read lie, and what a refused read answers.
 use Rattle.std.specs.Prelude.{◌≡◌, Bool, true, false, ℕ, ◌+◌, ◌≤◌, Err}
 use Rattle.core_read.specs.declared.error.Refusal.{Refusal}
-use Rattle.strip_header.specs.declared.Section.TheVariants as Sections
 use Rattle.strip_records.specs.Kinds.{length_of}
 use Rattle.strip_records.specs.declared.kind.Kind.{Kind}
 use Rattle.strip_records.specs.declared.kind.Kind.TheVariants.{Pan1, Pic1, Txt1, Wnd1, Ali1}

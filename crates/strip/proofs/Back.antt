@@ -38,6 +38,8 @@ use Rattle.strip_records.specs.declared.kind.Kind.TheVariants.{Pan1, Pic1, Txt1,
 use Rattle.strip_records.specs.declared.record.Record.{Record}
 use Rattle.strip_header.specs.declared.Header.{Header}
 use Rattle.strip_read.specs.declared.read.SectionRead.{SectionRead}
+use Rattle.core_read.specs.Taken.{Taken}
+use Rattle.core_read.specs.declared.error.NumberList.TheVariants.{Quads, Units, Lines, Frames}
 use Rattle.strip_header.specs.declared.Section.TheVariants as Sections
 use Rattle.strip_write.proofs.Steps.{letters_bytes, size_parts}
 use Rattle.strip.proofs.BackKinds.{GoodWhole, BodyBack, body_end, body_reach, read_record, body_back}
@@ -132,7 +134,7 @@ size_good n p z h k l = let m : z ≤ n - p = omega arith in rw (le-ltb z 8 h, k
 -- the header, given its two numbers
 header_back : {s : List ℕ} (order : ByteOrder) (p : ℕ) (k : Kind) (z : ℕ) → 8 ≤ z → z % 4 ≡ 0 → p + z ≤ length s → z < 256 ^ 4
     → Holds s ((start p).pos + 0) (letter_bytes k) → Holds s ((start p).pos + 4) (bytes_of order 4 z)
-    → ◌≡◌ {A = Header} (header_taken order s p) (record { letters = letters_of k; size = z; then = Ok (advanced (start p) 8) })
+    → ◌≡◌ {A = Taken Header} (header_taken order s p) (record { value = record { letters = letters_of k; size = z }; then = Ok (advanced (start p) 8) })
 unfolding header_taken stop_if
 header_back {s} order p k z a b d e h₁ h₂ =
     let h : Holds s ((start p).pos + 0) (bytes_of Little 4 (letters_of k)) = rw (letters_bytes k) h₁ in
@@ -159,7 +161,7 @@ pub record SectionBack (order : ByteOrder) (s : List ℕ) (p : ℕ) (l : Lists) 
 
 -- its parts
 record Parts (order : ByteOrder) (s : List ℕ) (p : ℕ) (w : Whole) : Type 0 where
-  header : ◌≡◌ {A = Header} (header_taken order s p) (record { letters = letters_of w.pane.kind; size = size_of p w; then = Ok (advanced (start p) 8) })
+  header : ◌≡◌ {A = Taken Header} (header_taken order s p) (record { value = record { letters = letters_of w.pane.kind; size = size_of p w }; then = Ok (advanced (start p) 8) })
   body : BodyBack order s (advanced (start p) 8) (p + 8) (Some (section_end p w)) w.pane.kind w
 
 parts : {s : List ℕ} (order : ByteOrder) (p : ℕ) (w : Whole) → GoodWhole w → length s ≤ 16777216 → p % 4 ≡ 0 → Holds s p (section order p w) → Parts order s p w
@@ -189,10 +191,10 @@ unfolding read_start
 start_good n p l h f =
     rw (
       section_passes n p h,
-      list_passes (start p) 1 2040 _ f.quads,
-      list_passes (start p) 2 32767 _ f.units,
-      list_passes (start p) 3 510 _ f.lines,
-      list_passes (start p) 4 510 _ f.frames,
+      list_passes (start p) Quads 2040 _ f.quads,
+      list_passes (start p) Units 32767 _ f.units,
+      list_passes (start p) Lines 510 _ f.lines,
+      list_passes (start p) Frames 510 _ f.frames,
     )
 
 -- THE SECTION

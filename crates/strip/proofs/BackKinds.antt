@@ -17,7 +17,9 @@ use Rattle.pane.proofs.Cleared.{Good, sound}
 use Rattle.pane.proofs.Back.{read_back, length_pane, pane_back, texts_back}
 use Rattle.picture_fields.specs.Picture.{picture_taken, blank_picture, picture_quads, picture_length, encode_picture}
 use Rattle.picture.specs.Body as picture
-use Rattle.picture.specs.declared.body.PictureMeasured.{PictureMeasured}
+use Rattle.picture_fields.specs.declared.PictureFound.{PictureFound}
+use Rattle.pane_read.specs.declared.parsed.Measured.{Measured}
+use Rattle.core_read.specs.Taken.{Taken}
 use Rattle.picture_fields.specs.declared.PicturePane.{PicturePane}
 use Rattle.picture.proofs.Back as picture-laws
 use Rattle.text_box_read.specs.TextBox.{text_box_taken, blank_text_box, text_box_units, text_box_lines}
@@ -25,14 +27,13 @@ use Rattle.text_box_caption.specs.Caption.{label_of}
 use Rattle.text_box_write.specs.Written.{encode_text_box}
 use Rattle.text_box.specs.Body as text-box
 use Rattle.text_box.specs.Same as text_box_same
-use Rattle.text_box.specs.declared.body.TextBoxMeasured.{TextBoxMeasured}
 use Rattle.text_box_read.specs.declared.TextBoxPane.{TextBoxPane}
-use Rattle.text_box_read.specs.declared.TextBoxTaken.{TextBoxTaken}
+use Rattle.text_box_read.specs.declared.TextBoxFound.{TextBoxFound}
 use Rattle.text_box.proofs.Equal as text-box-laws
 use Rattle.window_read.specs.Window.{window_taken, blank_window}
 use Rattle.window_write.specs.Write.{window_length, encode_window}
 use Rattle.window.specs.Body as window
-use Rattle.window.specs.declared.body.WindowMeasured.{WindowMeasured}
+use Rattle.window_read.specs.declared.read.WindowFound.{WindowFound}
 use Rattle.window_read.specs.declared.WindowPane.{WindowPane}
 use Rattle.window.proofs.Back as window-laws
 use Rattle.window.proofs.Fields.{read_back_content}
@@ -71,7 +72,7 @@ own_picture Ali1 w = blank_picture
 abbrev pub own_text_box : Kind → Cursor → ℕ → Whole → TextBoxPane
 own_text_box Pan1 c body w = blank_text_box
 own_text_box Pic1 c body w = blank_text_box
-own_text_box Txt1 c body w = (text-box-laws.read_back body (advanced c 76) w.pane.text_box w.lists.units w.lists.lines w.label).text_box
+own_text_box Txt1 c body w = (text-box-laws.read_back body (advanced c 76) w.pane.text_box w.lists.units w.lists.lines w.label).value.text_box
 own_text_box Wnd1 c body w = blank_text_box
 own_text_box Ali1 c body w = blank_text_box
 
@@ -186,9 +187,8 @@ module _ {s : List ℕ} (order : ByteOrder) (c : Cursor) (body : ℕ) (x : Exten
     pic_fit : Fit 4 w.lists.quads
     pic_fit = below_fit 4 w.lists.quads t.quads
 
-    pic_measured : ◌≡◌ {A = PictureMeasured} (picture.picture_measured order s (Ok c) body x) (record {
-      base = read_back w.pane.base;
-      own = picture_taken order s (Ok (advanced c 76));
+    pic_measured : ◌≡◌ {A = Taken (Measured PictureFound)} (picture.picture_measured order s (Ok c) body x) (record {
+      value = record { base = read_back w.pane.base; own = (picture_taken order s (Ok (advanced c 76))).value };
       then = Ok (advanced c (76 + picture_length w.pane.picture w.lists.quads));
     })
     unfolding picture.picture_measured picture.body_length OwnGood
@@ -251,9 +251,8 @@ module _ {s : List ℕ} (order : ByteOrder) (c : Cursor) (body : ℕ) (x : Exten
     wnd_reach : wnd_end.reach ≡ body + (76 + window_length body (length w.lists.quads) (length w.lists.frames))
     wnd_reach = window-laws.reach_window (advanced c 76) body (length w.lists.quads) (length w.lists.frames) (base_level c level) wnd_here whole ∙ omega arith
 
-    wnd_measured : ◌≡◌ {A = WindowMeasured} (window.window_measured order s (Ok c) body x) (record {
-      base = read_back w.pane.base;
-      own = window_taken order s (Ok (advanced c 76)) body;
+    wnd_measured : ◌≡◌ {A = Taken (Measured WindowFound)} (window.window_measured order s (Ok c) body x) (record {
+      value = record { base = read_back w.pane.base; own = (window_taken order s (Ok (advanced c 76)) body).value };
       then = Ok wnd_end;
     })
     unfolding window.window_measured window.body_length OwnGood
@@ -318,8 +317,11 @@ module _ {s : List ℕ} (order : ByteOrder) (c : Cursor) (body : ℕ) (x : Exten
     txt_here : (advanced c 76).pos ≡ body + 76
     txt_here = pos_advanced c 76 ∙ ap (λ (n : ℕ). n + 76) here
 
-    abbrev Read : TextBoxTaken
+    abbrev Read : Taken TextBoxFound
     Read = text-box-laws.read_back body (advanced c 76) w.pane.text_box w.lists.units w.lists.lines w.label
+
+    abbrev Found : TextBoxFound
+    Found = Read.value
 
     txt_own : text_box_taken order s (Ok (advanced c 76)) body ≡ Read
     unfolding OwnGood
@@ -328,7 +330,7 @@ module _ {s : List ℕ} (order : ByteOrder) (c : Cursor) (body : ℕ) (x : Exten
         t.pane.text_box o (below_at 2 _ t.units) (below_at 4 _ t.lines) txt_base.1
 
     txt_same : text_box_same.SameTextBox
-        (record { box = Read.text_box; units = text_box_units order s Read; lines = text_box_lines order s Read; label = label_of s Read.text_box.label })
+        (record { box = Found.text_box; units = text_box_units order s Found; lines = text_box_lines order s Found; label = label_of s Found.text_box.label })
         (record { box = w.pane.text_box; units = w.lists.units; lines = w.lists.lines; label = w.label })
     unfolding OwnGood
     txt_same =
@@ -348,7 +350,7 @@ module _ {s : List ℕ} (order : ByteOrder) (c : Cursor) (body : ℕ) (x : Exten
     txt_answer : ◌≡◌ {A = Place} (Ok txt_after) (Ok (record { pos = body_end Txt1 body w; reach = body_reach Txt1 body w }))
     txt_answer = parsed_at txt_after _ _ (text-box-laws.pos_box body (advanced c 76) w.pane.text_box w.lists.units w.lists.lines w.label txt_here) txt_reach
 
-    txt_measured : ◌≡◌ {A = TextBoxMeasured} (text-box.text_box_measured order s (Ok c) body x) (record { base = read_back w.pane.base; own = Read; then = Ok txt_after })
+    txt_measured : ◌≡◌ {A = Taken (Measured TextBoxFound)} (text-box.text_box_measured order s (Ok c) body x) (record { value = record { base = read_back w.pane.base; own = Found }; then = Ok txt_after })
     unfolding text-box.text_box_measured OwnGood
     txt_measured =
         rw (
@@ -361,11 +363,11 @@ module _ {s : List ℕ} (order : ByteOrder) (c : Cursor) (body : ℕ) (x : Exten
           kept txt_after txt_reach,
         )
 
-    txt_units : (old : List ℕ) → text-box.units_after order s (Ok c) body x old ≡ over (text_box_units order s Read) old
+    txt_units : (old : List ℕ) → text-box.units_after order s (Ok c) body x old ≡ over (text_box_units order s Found) old
     unfolding text-box.units_after text-box.units_filled unless_refused
     txt_units old = rw txt_measured
 
-    txt_lines : (old : List ℕ) → text-box.lines_after order s (Ok c) body x old ≡ over (text_box_lines order s Read) old
+    txt_lines : (old : List ℕ) → text-box.lines_after order s (Ok c) body x old ≡ over (text_box_lines order s Found) old
     unfolding text-box.lines_after text-box.lines_filled unless_refused
     txt_lines old = rw txt_measured
 
@@ -377,8 +379,8 @@ module _ {s : List ℕ} (order : ByteOrder) (c : Cursor) (body : ℕ) (x : Exten
           rw (
             txt_units l.units,
             txt_lines l.lines,
-            front _ (text_box_units order s Read) l.units (units_count order s Read.text_box.text Read.text_box.text_length Read.text_place),
-            front _ (text_box_lines order s Read) l.lines (lines_count order s Read.text_box.line_table Read.lines_place),
+            front _ (text_box_units order s Found) l.units (units_count order s Found.text_box.text Found.text_box.text_length Found.text_place),
+            front _ (text_box_lines order s Found) l.lines (lines_count order s Found.text_box.line_table Found.lines_place),
           )
           txt_same;
     }

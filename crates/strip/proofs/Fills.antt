@@ -11,22 +11,21 @@ use Rattle.core_read.specs.Lists.{numbers_taken, numbers_at}
 use Rattle.core_read.specs.declared.cursor.ByteOrder.{ByteOrder}
 use Rattle.core_read.proofs.Lists.{length_numbers}
 use Rattle.core_checks.specs.Checks.{unless_refused, Extent}
-use Rattle.pane_read.specs.Pane.{pane_taken, blank_pane}
+use Rattle.pane_read.specs.Pane.{blank_pane}
 use Rattle.pane_read.specs.declared.Pane.{Pane}
-use Rattle.pane_checks.specs.Checks.{texts_checked}
 use Rattle.pane.specs.Body.{pane_read}
-use Rattle.picture_fields.specs.Picture.{picture_taken, quads_of, blank_picture}
-use Rattle.picture_fields.specs.declared.PictureTaken.{PictureTaken}
+use Rattle.picture_fields.specs.Picture.{quads_of, blank_picture}
+use Rattle.picture_fields.specs.declared.PictureFound.{PictureFound}
 use Rattle.picture.specs.Body.{picture_start, picture_measured, picture_given, quads_filled, picture_read, quads_read, picture_parsed, quads_parsed}
 use Rattle.text_box_parts.specs.Parts.{units_of, lines_of, LineTable}
 use Rattle.text_box_parts.specs.declared.Text.{Text}
 use Rattle.text_box_parts.specs.declared.Text.TheVariants as text
 use Rattle.text_box_parts.proofs.Pairs.{length_pairs}
 use Rattle.text_box_read.specs.TextBox.{blank_text_box, text_box_units, text_box_lines}
-use Rattle.text_box_read.specs.declared.TextBoxTaken.{TextBoxTaken}
+use Rattle.text_box_read.specs.declared.TextBoxFound.{TextBoxFound}
 use Rattle.text_box.specs.Body.{text_box_measured, text_box_given, units_filled, lines_filled, text_box_read, text_box_start, units_after, lines_after}
 use Rattle.window_read.specs.Window.{frame_taken, frames_taken, window_quads, window_frames, blank_window}
-use Rattle.window_read.specs.declared.read.WindowTaken.{WindowTaken}
+use Rattle.window_read.specs.declared.read.WindowFound.{WindowFound}
 use Rattle.window.specs.Body as window
 use Rattle.window.specs.Body.{window_measured, window_given, frames_filled, window_read, read_quads, read_frames, window_parsed, parsed_quads, parsed_frames}
 use Rattle.alignment.specs.Body.{alignment_read}
@@ -79,18 +78,18 @@ lines_count order s (Some count) at =
 -- ---- each kind, by the place where its read ends
 
 module _ (order : ByteOrder) (s : List ℕ) (l : Lists) where
-  pic_read : (q : Place) (b : Pane) (x : PictureTaken)
+  pic_read : (q : Place) (b : Pane) (x : PictureFound)
       → Fills (numbers_of (pic1 (unless_refused q blank_pane b) (unless_refused q blank_picture x.picture))) l
       (lists (unless_refused q l.quads (over (quads_of order s x) l.quads)) l.units l.lines l.frames)
   unfolding unless_refused quads_of blank_picture
   pic_read (Ok c) b x = record {
     front = lists (quads_of order s x) [] [] [];
-    counts = ap (λ (n : ℕ). numbers n 0 0 0) (length_taken order 4 (8 * x.picture.quad_count) s x.quads);
+    counts = ap (λ (n : ℕ). numbers n 0 0 0) (length_taken order 4 (8 * x.picture.quad_count) s (Ok x.quads));
     laid = refl;
   }
   pic_read (Err why) b x = fills_none l
 
-  txt_read : (q : Place) (b : Pane) (x : TextBoxTaken)
+  txt_read : (q : Place) (b : Pane) (x : TextBoxFound)
       → Fills (numbers_of (txt1 (unless_refused q blank_pane b) (unless_refused q blank_text_box x.text_box))) l
       (lists l.quads (unless_refused q l.units (over (text_box_units order s x) l.units)) (unless_refused q l.lines (over (text_box_lines order s x) l.lines)) l.frames)
   unfolding unless_refused blank_text_box
@@ -104,14 +103,14 @@ module _ (order : ByteOrder) (s : List ℕ) (l : Lists) where
       }
   txt_read (Err why) b x = fills_none l
 
-  wnd_read : (q : Place) (b : Pane) (x : WindowTaken) (body : ℕ)
+  wnd_read : (q : Place) (b : Pane) (x : WindowFound) (body : ℕ)
       → Fills (numbers_of (wnd1 (unless_refused q blank_pane b) (unless_refused q blank_window x.window))) l
       (lists (unless_refused q l.quads (over (window_quads order s x) l.quads)) l.units l.lines (unless_refused q l.frames (over (window_frames order s x body) l.frames)))
   unfolding unless_refused window_quads window_frames blank_window
   wnd_read (Ok c) b x body =
-      let table = (numbers_taken order 4 x.window.frame_count s x.table).value in
-      let quads = length_taken order 4 (8 * x.window.content.quad_count) s x.quads in
-      let frames = length_frames order s (body - 8) table x.frames ∙ ap (λ (n : ℕ). 2 * n) (length_taken order 4 x.window.frame_count s x.table) in
+      let table = numbers_taken order 4 x.window.frame_count s (Ok x.table) in
+      let quads = length_taken order 4 (8 * x.window.content.quad_count) s (Ok x.quads) in
+      let frames = length_frames order s (body - 8) table.value table.then ∙ ap (λ (n : ℕ). 2 * n) (length_taken order 4 x.window.frame_count s (Ok x.table)) in
       record {
         front = lists (window_quads order s x) [] [] (window_frames order s x body);
         counts = ap (λ (n : ℕ). numbers n 0 0 (length (window_frames order s x body))) quads ∙ ap (λ (n : ℕ). numbers (8 * x.window.content.quad_count) 0 0 n) frames;
@@ -123,9 +122,9 @@ module _ (order : ByteOrder) (s : List ℕ) (l : Lists) where
   run_fills : (k : Kind) (p : Place) (body : ℕ) (x : Extent) → Fills (numbers_of (body_read order k s p body x).«record») l (body_lists order k s p body x l)
   unfolding body_read body_lists picture_read picture_given quads_read quads_filled text_box_read text_box_given units_after units_filled lines_after lines_filled window_read window_given read_quads window.quads_filled read_frames frames_filled
   run_fills Pan1 p body x = fills_none l
-  run_fills Pic1 p body x = let m = picture_measured order s p body x in pic_read m.then m.base m.own
-  run_fills Txt1 p body x = let m = text_box_measured order s p body x in txt_read m.then m.base m.own
-  run_fills Wnd1 p body x = let m = window_measured order s p body x in wnd_read m.then m.base m.own body
+  run_fills Pic1 p body x = let m = picture_measured order s p body x in pic_read m.then m.value.base m.value.own
+  run_fills Txt1 p body x = let m = text_box_measured order s p body x in txt_read m.then m.value.base m.value.own
+  run_fills Wnd1 p body x = let m = window_measured order s p body x in wnd_read m.then m.value.base m.value.own body
   run_fills Ali1 p body x = fills_none l
 
   -- THE BODY CALL of a kind at B, with the lists l lent
@@ -148,21 +147,21 @@ plain (Ok c) next r l e = rw e (fills_none l)
 plain (Err why) next r l e = fills_none l
 
 module _ (order : ByteOrder) (s : List ℕ) (next : ℕ) (l : Lists) where
-  pic_by : (q : Place) (b : Pane) (x : PictureTaken)
+  pic_by : (q : Place) (b : Pane) (x : PictureFound)
       → Fills (numbers_of (handed q next (pic1 (unless_refused q blank_pane b) (unless_refused q blank_picture x.picture)))) l
       (lists (unless_refused q l.quads (over (quads_of order s x) l.quads)) l.units l.lines l.frames)
   unfolding unless_refused finished refused_with blank_record
   pic_by (Ok c) b x = pic_read order s l (Ok c) b x
   pic_by (Err why) b x = fills_none l
 
-  txt_by : (q : Place) (b : Pane) (x : TextBoxTaken)
+  txt_by : (q : Place) (b : Pane) (x : TextBoxFound)
       → Fills (numbers_of (handed q next (txt1 (unless_refused q blank_pane b) (unless_refused q blank_text_box x.text_box)))) l
       (lists l.quads (unless_refused q l.units (over (text_box_units order s x) l.units)) (unless_refused q l.lines (over (text_box_lines order s x) l.lines)) l.frames)
   unfolding unless_refused finished refused_with blank_record
   txt_by (Ok c) b x = txt_read order s l (Ok c) b x
   txt_by (Err why) b x = fills_none l
 
-  wnd_by : (q : Place) (b : Pane) (x : WindowTaken) (body : ℕ)
+  wnd_by : (q : Place) (b : Pane) (x : WindowFound) (body : ℕ)
       → Fills (numbers_of (handed q next (wnd1 (unless_refused q blank_pane b) (unless_refused q blank_window x.window)))) l
       (lists (unless_refused q l.quads (over (window_quads order s x) l.quads)) l.units l.lines (unless_refused q l.frames (over (window_frames order s x body) l.frames)))
   unfolding unless_refused finished refused_with blank_record
@@ -172,11 +171,11 @@ module _ (order : ByteOrder) (s : List ℕ) (next : ℕ) (l : Lists) where
   -- the body of a kind
   body_fills : (k : Kind) (p : Place) (body : ℕ) → Fills (numbers_of (read_body order k s p body next).«record») l (body_lists order k s p body (Some next) l)
   unfolding read_body body_read body_lists picture_read picture_given quads_read quads_filled text_box_read text_box_given units_after units_filled lines_after lines_filled window_read window_given read_quads window.quads_filled read_frames frames_filled
-  body_fills Pan1 p body = let r = pane_read order s p body (Some next) in plain r.answer next (pan1 r.pane) l refl
-  body_fills Pic1 p body = let m = picture_measured order s p body (Some next) in pic_by m.then m.base m.own
-  body_fills Txt1 p body = let m = text_box_measured order s p body (Some next) in txt_by m.then m.base m.own
-  body_fills Wnd1 p body = let m = window_measured order s p body (Some next) in wnd_by m.then m.base m.own body
-  body_fills Ali1 p body = let r = alignment_read order s p body (Some next) in plain r.answer next (ali1 r.base r.alignment) l refl
+  body_fills Pan1 p body = let r = pane_read order s p body (Some next) in plain r.answer next (pan1 r.base) l refl
+  body_fills Pic1 p body = let m = picture_measured order s p body (Some next) in pic_by m.then m.value.base m.value.own
+  body_fills Txt1 p body = let m = text_box_measured order s p body (Some next) in txt_by m.then m.value.base m.value.own
+  body_fills Wnd1 p body = let m = window_measured order s p body (Some next) in wnd_by m.then m.value.base m.value.own body
+  body_fills Ali1 p body = let r = alignment_read order s p body (Some next) in plain r.answer next (ali1 r.base r.own) l refl
 
 -- ---- a section
 
@@ -196,7 +195,7 @@ module _ (order : ByteOrder) (s : List ℕ) (l : Lists) where
   unfolding read_at lists_at
   at_fills p =
       let h = header_taken order s p in
-      unless_fills h.then _ l _ (kind_fills (kind_of h.letters) h.then (p + 8) (p + h.size))
+      unless_fills h.then _ l _ (kind_fills (kind_of h.value.letters) h.then (p + 8) (p + h.value.size))
 
   end_fills : (p : ℕ) (t : Bool) → Fills (numbers_of (cond t ended_with (read_at order s p)).«record») l (cond t l (lists_at order s p l))
   unfolding ended_with blank_record

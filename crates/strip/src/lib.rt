@@ -4,5 +4,5 @@
 pub mod record;
 
 pub use strip_read::{measure, read};
-pub use strip_records::{filled, kind};
+pub use strip_records::{filled, kind, lists};
 pub use strip_write::write;

@@ -1,7 +1,9 @@
 // A pane of any kind, and what the types say of one with its lists and label.
-ghost use Rattle.strip_records.specs.Whole.{whole};
-ghost use Rattle.strip_records.specs.Typed.{Typed, TypedRecord};
+ghost use Rattle.std.specs.Prelude.{◌^◌};
+ghost use Rattle.strip_records.specs.Held.{handed};
+ghost use Rattle.strip_records.specs.Typed.{Below, Typed, TypedRecord};
 
+use strip_records::lists::Content;
 pub use strip_records::record::{Record, blank_record};
 
 fn typed_record(r: Record)
@@ -14,9 +16,27 @@ fn typed_record(r: Record)
     alignment_fields::typed_alignment(r.alignment);
 }
 
+// Every number of a list fits its type. There is one function for each of the three types: a generic one would have to be told this of every `Number`.
+fn typed_u32s(list: &[u32])
+    ensures { Below (256 ^ 4) list.now }
+{}
+
+fn typed_u16s(list: &[u16])
+    ensures { Below (256 ^ 2) list.now }
+{}
+
+fn typed_u8s(list: &[u8])
+    ensures { Below 256 list.now }
+{}
+
 // Every record with its lists and label is one that Typed describes.
-pub fn typed(r: Record, quads: &[u32], units: &[u16], lines: &[u32], frames: &[u16], label: &[u8])
-    ensures { Typed (whole r quads.now units.now lines.now frames.now label.now) }
+pub fn typed(r: Record, content: Content)
+    ensures { Typed (handed r content.entry) }
 {
     typed_record(r);
+    typed_u32s(content.quads);
+    typed_u16s(content.units);
+    typed_u32s(content.lines);
+    typed_u16s(content.frames);
+    typed_u8s(content.label);
 }

@@ -7,6 +7,7 @@ use lib.ListN.{length}
 use lib.Dec.{ltb}
 use borrow.Author.Tests.{ltb-false}
 use Rattle.core_read.specs.declared.cursor.Cursor.{Cursor}
+use Rattle.core_read.specs.declared.error.NumberList.TheVariants.{Quads, Units, Lines, Frames}
 use Rattle.core_checks.proofs.Checked.{SectionOk, section_started, list_cleared, or_false}
 use Rattle.strip_records.specs.Whole.{Lists, Full}
 use Rattle.strip_header.specs.Header.{read_start, size_bad}
@@ -17,10 +18,10 @@ pub read_started : (n p : ℕ) (l : Lists) (c : Cursor) → read_start n p (leng
     → SectionOk n p × Full l
 unfolding read_start
 read_started n p l c e =
-    let (a, x) = list_cleared _ 4 510 (length l.frames) c e in
-    let (b, y) = list_cleared _ 3 510 (length l.lines) c a in
-    let (d, z) = list_cleared _ 2 32767 (length l.units) c b in
-    let (f, w) = list_cleared _ 1 2040 (length l.quads) c d in
+    let (a, x) = list_cleared _ Frames 510 (length l.frames) c e in
+    let (b, y) = list_cleared _ Lines 510 (length l.lines) c a in
+    let (d, z) = list_cleared _ Units 32767 (length l.units) c b in
+    let (f, w) = list_cleared _ Quads 2040 (length l.quads) c d in
     ((section_started n p c f).1, record { quads = w; units = z; lines = y; frames = x })
 
 -- 8

@@ -83,7 +83,7 @@ size_on n p z e h =
     (omega (arith, k), size_ok n p z e h)
 
 header_on : (order : ByteOrder) (s : List ℕ) (p : ℕ) (c : Cursor) → (header_taken order s p).then ≡ Ok c → p ≤ length s
-    → (p + 8 ≤ p + (header_taken order s p).size) × (p + (header_taken order s p).size ≤ length s)
+    → (p + 8 ≤ p + (header_taken order s p).value.size) × (p + (header_taken order s p).value.size ≤ length s)
 unfolding header_taken
 header_on order s p c g h =
     let z = number_taken order 4 s (number_taken Little 4 s (Ok (start p))).then in
@@ -93,7 +93,7 @@ at_on : (order : ByteOrder) (s : List ℕ) (p : ℕ) → p ≤ length s → Onwa
 unfolding read_at
 at_on order s p h =
     let t = header_taken order s p in
-    or_on (length s) p t.then _ (λ c g. kind_on (length s) p (p + t.size) (header_on order s p c g h) order (kind_of t.letters) s t.then (p + 8))
+    or_on (length s) p t.then _ (λ c g. kind_on (length s) p (p + t.value.size) (header_on order s p c g h) order (kind_of t.value.letters) s t.then (p + 8))
 
 end_on : (n p : ℕ) (b : Bool) (r : SectionRead) → Onward n p r.answer → Onward n p (cond b ended_with r).answer
 unfolding ended_with Onward

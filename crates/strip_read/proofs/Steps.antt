@@ -3,7 +3,6 @@ use mathlib.Core.Path.{◌≡◌, refl, sym, ap, ◌∙◌}
 use Prim.Native.Nat.{ℕ, ◌+◌, ◌≤◌}
 use mathlib.Core.List.{List}
 use lib.ListN.{length}
-use borrow.Author.Tests.{eq-eqb, ne_eqb}
 use Rattle.core_read.specs.Taken.{start, number_taken, Place}
 use Rattle.core_checks.specs.Checks.{section_start, unless_refused}
 use native.Mathlib.Omega.{arith}
@@ -12,73 +11,57 @@ use Rattle.core_read.specs.declared.error.Refusal.{Refusal}
 use Rattle.core_read.specs.declared.cursor.ByteOrder.{ByteOrder}
 use Rattle.core_read.specs.declared.cursor.ByteOrder.TheVariants.{Little}
 use Rattle.core_read.specs.declared.cursor.Cursor.{Cursor}
+use Rattle.core_read.specs.declared.error.NumberList.TheVariants.{Quads, Units, Lines, Frames}
+use Rattle.core_read.specs.Taken.{Taken}
+use Rattle.core_read.specs.declared.reader.Reader.{Reader}
+use Rattle.core_read.specs.Steps.{Took}
 use Rattle.core_read.proofs.Runs.{cleared}
 use Rattle.strip_records.specs.Kinds.{kind_of, KindFound}
 use Rattle.strip_records.specs.Whole.{Lists, no_lists, Full}
 use Rattle.strip_kinds.specs.Body.{body_read, body_lists}
-use Rattle.strip_read.specs.Read.{finished, read_body, by_kind, lists_by_kind, or_refused, refused_with, ended_with, passed_with, read_at, lists_at, read_section, measured, lists_after, body_in, body_at}
+use Rattle.strip_read.specs.Read.{finished, read_body, by_kind, lists_by_kind, or_refused, ended_with, read_at, lists_at, read_section, measured, lists_after, body_in, body_at}
 use Rattle.strip_header.specs.Header.{read_start, size_bad, header_taken, section_by_number}
-use Rattle.strip_records.specs.declared.kind.Kind.{Kind}
 use Rattle.strip_header.specs.declared.Header.{Header}
 use Rattle.strip_kinds.specs.declared.body.BodyRead.{BodyRead}
 use Rattle.strip_read.specs.declared.read.SectionRead.{SectionRead}
 use Rattle.strip_read.specs.declared.read.Body.{Body}
 use Rattle.strip_read.proofs.Cleared.{size_ok, read_started}
-use Rattle.std.specs.Prelude.{Err, None, Ok, Some, Bool, true, false, cond, eqb}
+use Rattle.std.specs.Prelude.{Result, Err, None, Ok, Some, Bool, true, false, cond, eqb}
 
 -- what is known by the case is known by its number
 pub numbered : {B : Type 0} {r w : SectionRead} → (r ≡ w) × B → (r ≡ w) × (B × (section_by_number r.answer ≡ section_by_number w.answer))
 numbered h = (h.0, (h.1, ap (λ (x : SectionRead). section_by_number x.answer) h.0))
 
 module _ (order : ByteOrder) (s : List ℕ) where
-  module _ (p : ℕ) (h : Header) (e : h ≡ header_taken order s p) where
-    pub header_refused : (why : Refusal) → h.then ≡ Err why → (l : Lists) → (refused_with why ≡ read_at order s p) × (l ≡ lists_at order s p l)
-    unfolding read_at lists_at or_refused unless_refused
-    header_refused why g l = rw (← e, g) (refl, refl)
-
+  -- a header that was read
+  module _ (p : ℕ) (h : Header) (c : Cursor) (e : ◌≡◌ {A = Taken Header} (header_taken order s p) (record { value = h; then = Ok c })) where
     -- check 8 was passed
-    pub header_size : (c : Cursor) → h.then ≡ Ok c → p ≤ length s → p + h.size ≤ length s
+    pub header_size : p ≤ length s → p + h.size ≤ length s
     unfolding header_taken
-    header_size c g k =
+    header_size k =
         let z = number_taken order 4 s (number_taken Little 4 s (Ok (start p))).then in
-        let f = cleared z.then (size_bad (length s) p z.value) _ c (sym (ap (λ (x : Header). x.then) e) ∙ g) in
-        let y : h.size ≡ z.value = ap (λ (x : Header). x.size) e in
-        rw y (size_ok (length s) p z.value f.1 k)
-
-    pub header_kind : (c : Cursor) → h.then ≡ Ok c → (kind : Kind) → Some kind ≡ kind_of h.letters → (l m : Lists) (b : BodyRead)
-        → b ≡ body_read order kind s (Ok c) (p + 8) (Some (p + h.size)) → m ≡ body_lists order kind s (Ok c) (p + 8) (Some (p + h.size)) l
-        → (finished b.answer (p + h.size) b.«record» ≡ read_at order s p) × (m ≡ lists_at order s p l)
-    unfolding read_at lists_at or_refused unless_refused by_kind lists_by_kind read_body
-    header_kind c g kind k l m b x y = rw (← e, g, ← k, x, y) (refl, refl)
-
-    pub header_other : (c : Cursor) → h.then ≡ Ok c → None ≡ kind_of h.letters → (l : Lists) → (passed_with (p + h.size) ≡ read_at order s p) × (l ≡ lists_at order s p l)
-    unfolding read_at lists_at or_refused unless_refused by_kind lists_by_kind
-    header_other c g k l = rw (← e, g, ← k) (refl, refl)
-
-  module _ (p : ℕ) (l : Lists) (q : Place)
-      (e : q ≡ read_start (length s) p (length l.quads) (length l.units) (length l.lines) (length l.frames)) where
-    pub read_refused : (why : Refusal) → q ≡ Err why → (refused_with why ≡ read_section order s p l) × (l ≡ lists_after order s p l)
-    unfolding read_section lists_after or_refused unless_refused
-    read_refused why g = rw (← e, g) (refl, refl)
-
-    pub read_end : (c : Cursor) → q ≡ Ok c → p ≡ length s → (ended_with ≡ read_section order s p l) × (l ≡ lists_after order s p l)
-    unfolding read_section lists_after or_refused unless_refused
-    read_end c g h = rw (← e, g, eq-eqb _ _ h) (refl, refl)
-
-    pub read_on : (c : Cursor) → q ≡ Ok c → (p ≡ length s → ⊥) → (read_at order s p ≡ read_section order s p l) × (lists_at order s p l ≡ lists_after order s p l)
-    unfolding read_section lists_after or_refused unless_refused
-    read_on c g h = rw (← e, g, ne_eqb _ _ h) (refl, refl)
+        let f = cleared z.then (size_bad (length s) p z.value) _ c (ap (λ (x : Taken Header). x.then) e) in
+        let y : z.value ≡ h.size = ap (λ (x : Taken Header). x.value.size) e in
+        rw y at (size_ok (length s) p z.value f.1 k)
 
   -- the section measured is what a section read with any full lists gives
   pub measured_full : (p : ℕ) (l : Lists) → Full l → read_section order s p l ≡ measured order s p
   unfolding read_section measured read_start
   measured_full p l f =
       rw (
-        list_enough _ 4 510 _ f.frames,
-        list_enough _ 3 510 _ f.lines,
-        list_enough _ 2 32767 _ f.units,
-        list_enough (section_start (length s) p) 1 2040 _ f.quads,
+        list_enough _ Frames 510 _ f.frames,
+        list_enough _ Lines 510 _ f.lines,
+        list_enough _ Units 32767 _ f.units,
+        list_enough (section_start (length s) p) Quads 2040 _ f.quads,
       )
+
+-- a header that a reader took keeps to the buffer
+pub took_size : (p : ℕ) (old new : Reader) (r : Result Header Refusal) (h : Header) → Took old new r (λ order s q. header_taken order s p) → r ≡ Ok h
+    → p ≤ length old.source.«data».now → p + h.size ≤ length old.source.«data».now
+took_size p old new (Ok v) h t e k =
+    let g : v ≡ h = cc in
+    rw g at (header_size old.source.order old.source.«data».now p v new.cursor t.1 k)
+took_size p old new (Err why) h t e k = cc
 
 pub measured_numbered : {r w : SectionRead} → r ≡ w → (r ≡ w) × (section_by_number r.answer ≡ section_by_number w.answer)
 measured_numbered e = (e, ap (λ (x : SectionRead). section_by_number x.answer) e)
@@ -104,7 +87,7 @@ module _ (order : ByteOrder) (s : List ℕ) (p : ℕ) (l : Lists) where
   none_from : (q : Place) (r : SectionRead) → body_at order s p q ≡ Err r → (r ≡ from order s p q) × (l ≡ after order s p q l)
   unfolding body_at or_refused unless_refused read_at lists_at
   none_from (Err why) r e = (cc, refl)
-  none_from (Ok c) r e = let h = header_taken order s p in none_in (eqb p (length s)) h.then (kind_of h.letters) (p + h.size) r e
+  none_from (Ok c) r e = let h = header_taken order s p in none_in (eqb p (length s)) h.then (kind_of h.value.letters) (p + h.value.size) r e
 
   -- r is the read of the body b, and m the lists after it
   module _ (b : Body) (r : BodyRead) (m : Lists) (x : r ≡ body_read order b.kind s (Ok b.run) (p + 8) (Some b.next)) (y : m ≡ body_lists order b.kind s (Ok b.run) (p + 8) (Some b.next) l) where
@@ -119,7 +102,7 @@ module _ (order : ByteOrder) (s : List ℕ) (p : ℕ) (l : Lists) where
     body_from : (q : Place) → body_at order s p q ≡ Ok b → (finished r.answer b.next r.«record» ≡ from order s p q) × (m ≡ after order s p q l)
     unfolding body_at or_refused unless_refused read_at lists_at
     body_from (Err why) e = cc
-    body_from (Ok c) e = let h = header_taken order s p in body_found (eqb p (length s)) h.then (kind_of h.letters) (p + h.size) e
+    body_from (Ok c) e = let h = header_taken order s p in body_found (eqb p (length s)) h.then (kind_of h.value.letters) (p + h.value.size) e
 
   -- the checks were passed
   body_cleared : (q : Place) (b : Body) → body_at order s p q ≡ Ok b → (c : Cursor) × q ≡ Ok c

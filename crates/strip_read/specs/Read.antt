@@ -1,6 +1,7 @@
 -- A section read: what it answers, its record, and the lists after it.
 use Rattle.std.specs.Prelude.{ℕ, ◌+◌, cond, List, length, eqb, Result, Err, None, Ok, Some}
 use Rattle.core_checks.specs.Checks.{section_start, unless_refused}
+use Rattle.core_read.specs.Taken.{Taken}
 use Rattle.core_read.specs.declared.error.Refusal.{Refusal}
 use Rattle.core_read.specs.declared.cursor.ByteOrder.{ByteOrder}
 use Rattle.strip_records.specs.Kinds.{kind_of, KindFound}
@@ -55,8 +56,8 @@ or_refused (Err why) r = refused_with why
 -- the section at p: its header, and a body at p + 8
 unfoldable pub read_at : ByteOrder → List ℕ → ℕ → SectionRead
 read_at order s p =
-    let h : Header = header_taken order s p in
-    or_refused h.then (by_kind order (kind_of h.letters) s h.then (p + 8) (p + h.size))
+    let h : Taken Header = header_taken order s p in
+    or_refused h.then (by_kind order (kind_of h.value.letters) s h.then (p + 8) (p + h.value.size))
 
 -- THE SECTION READ at p of s, with the lists l lent: 1, 2, 3, the end at the length, and then so
 unfoldable pub read_section : ByteOrder → List ℕ → ℕ → Lists → SectionRead
@@ -77,15 +78,15 @@ body_in (Err why) found next = Err (refused_with why)
 
 unfoldable pub body_at : ByteOrder → List ℕ → ℕ → Place → Result Body SectionRead
 body_at order s p (Ok c) =
-    let h : Header = header_taken order s p in
-    cond (eqb p (length s)) (Err ended_with) (body_in h.then (kind_of h.letters) (p + h.size))
+    let h : Taken Header = header_taken order s p in
+    cond (eqb p (length s)) (Err ended_with) (body_in h.then (kind_of h.value.letters) (p + h.value.size))
 body_at order s p (Err why) = Err (refused_with why)
 
 -- the lists after a section read: changed only by the body of a pane that is read
 unfoldable pub lists_at : ByteOrder → List ℕ → ℕ → Lists → Lists
 lists_at order s p l =
-    let h : Header = header_taken order s p in
-    unless_refused h.then l (lists_by_kind order (kind_of h.letters) s h.then (p + 8) (p + h.size) l)
+    let h : Taken Header = header_taken order s p in
+    unless_refused h.then l (lists_by_kind order (kind_of h.value.letters) s h.then (p + 8) (p + h.value.size) l)
 
 unfoldable pub lists_after : ByteOrder → List ℕ → ℕ → Lists → Lists
 lists_after order s p l =

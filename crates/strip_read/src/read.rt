@@ -1,17 +1,20 @@
 // The section read, with lists lent.
-ghost use Rattle.std.specs.Prelude.{◌≡◌, ◌≤◌, length};
+ghost use Rattle.std.specs.Prelude.{◌≡◌, ◌≤◌, length, Ok};
 ghost use Rattle.strip_header.specs.Header.{section_by_number};
-ghost use Rattle.strip_records.specs.Whole.{lists};
+ghost use Rattle.strip_records.specs.Held.{held, Filled};
 ghost use Rattle.strip_read.specs.Read.{refused_with, ended_with, passed_with, finished, body_at, read_section, lists_after};
 ghost use Rattle.core_read.specs.declared.cursor.Cursor.{Cursor};
 
-use core_read::cursor::{ByteOrder, Cursor, Place};
+use core_read::cursor::{Cursor, Place};
 use core_read::error::Refusal;
+use core_read::reader::{Reader, Source};
 pub use strip_header::Section;
 use strip_kinds::body::{BodyRead, read_kind};
 use strip_records::kind::Kind;
+use strip_records::lists::Lists;
 use strip_records::record::{Record, blank_record};
 
+// What a section read gives. The answer stands beside the record, which is blank unless a pane was read, as document 01 has it.
 #[derive(Clone, Copy)]
 pub struct SectionRead {
     pub answer: Result<Section, Refusal>,
@@ -70,70 +73,53 @@ pub(crate) fn finish(read: BodyRead, next: usize) -> SectionRead
 
 // The body of a section: its kind, the run that stands at it, and where the next section begins.
 #[derive(Clone, Copy)]
-pub(crate) struct Body {
-    pub(crate) kind: Kind,
-    pub(crate) run: Cursor,
-    pub(crate) next: usize,
+pub struct Body {
+    pub kind: Kind,
+    pub run: Cursor,
+    pub next: usize,
 }
 
-// The body of the section at a place, once the checks before it were made: the end, the header, check 8. Where there is none to read, what the section read gives.
+// The body of the section at a place, once the checks before it were made, with lists lent or none: the end, the header, check 8. Where there is none to read, what the section read gives.
 #[tactic(auto, unfolding(crate::specs::Read::body_at, crate::specs::Read::body_in))]
-pub(crate) fn body_at(
-    order: ByteOrder,
-    data: &[u8],
-    place: usize,
-    checked: Place,
-) -> Result<Body, SectionRead>
-    requires { (c : Cursor) → checked ≡ Ok c → (place ≤ length «data».now) × (length «data».now ≤ 16777216) }
-    ensures { result ≡ body_at order «data».now place checked }
+pub fn body_at<'a>(source: Source<'a>, place: usize, checked: Place) -> Result<Body, SectionRead>
+    requires { (c : Cursor) → checked ≡ Ok c → (place ≤ length source.«data».now) × (length source.«data».now ≤ 16777216) }
+    ensures { result ≡ body_at source.entry.order source.entry.«data».now place checked }
 {
     checked.map_err(refused)?;
-    if place == data.len() {
+    if place == source.data.len() {
         return Err(ended());
     }
-    let header = strip_header::take_header(order, data, place);
-    let run = header.then.map_err(refused)?;
+    let mut r = source.reader(place);
+    let header = strip_header::take_header(&mut r, place).map_err(refused)?;
     let next = place + header.size;
     let kind = Kind::of_letters(header.letters).ok_or_else(|| passed(next))?;
+    let run = r.cursor;
     Ok(Body { kind, run, next })
 }
 
 // The section at a place: checks 1, 2, 3, the end, the header, check 8, the body, checks 7 and 19. Lists change only where a pane is read.
-pub fn read_section(
-    order: ByteOrder,
-    data: &[u8],
+pub fn read_section<'a, 'l, 's>(
+    source: Source<'a>,
     place: usize,
-    quads: &mut [u32],
-    units: &mut [u16],
-    lines: &mut [u32],
-    frames: &mut [u16],
+    lists: &'s mut Lists<'l>,
 ) -> SectionRead
-    ensures value { result ≡ read_section order «data».now place (lists quads.old units.old lines.old frames.old) }
-    ensures frames_after { lists quads.new units.new lines.new frames.new ≡ lists_after order «data».now place (lists quads.old units.old lines.old frames.old) }
-    ensures answer_value { section_by_number result.answer ≡ section_by_number (read_section order «data».now place (lists quads.old units.old lines.old frames.old)).answer }
+    ensures value { result ≡ read_section source.entry.order source.entry.«data».now place (held lists.old) }
+    ensures lists_after { Filled lists.old lists.new (lists_after source.entry.order source.entry.«data».now place (held lists.old)) }
+    ensures answer_value { section_by_number result.answer ≡ section_by_number (read_section source.entry.order source.entry.«data».now place (held lists.old)).answer }
 {
     let checked = strip_header::read_start(
-        data.len(),
+        source.data.len(),
         place,
-        quads.len(),
-        units.len(),
-        lines.len(),
-        frames.len(),
+        lists.quads.len(),
+        lists.units.len(),
+        lists.lines.len(),
+        lists.frames.len(),
     );
-    match body_at(order, data, place, checked) {
+    match body_at(source, place, checked) {
         Ok(b) => {
-            let read = read_kind(
-                order,
-                b.kind,
-                data,
-                Ok(b.run),
-                place + 8,
-                Some(b.next),
-                quads,
-                units,
-                lines,
-                frames,
-            );
+            let cursor = b.run;
+            let r = Reader { source, cursor };
+            let read = read_kind(r, b.kind, place + 8, Some(b.next), lists);
             finish(read, b.next)
         }
         Err(read) => read,

@@ -1,1 +1,2 @@
 pub mod Bounded
+pub mod Held

@@ -4,14 +4,16 @@ use Prim.Native.Nat.{ℕ, ◌+◌, ◌^◌, ◌≤◌, ◌<◌}
 use native.Mathlib.Omega.{arith}
 use mathlib.Core.List.{List, [], ◌++◌, append_assoc}
 use lib.ListN.{length, replicate}
-use Rattle.core_read.specs.Bytes.{bytes_of, padding, Put}
+use Rattle.core_read.specs.Bytes.{bytes_of, padding}
 use Rattle.core_read.specs.Taken.{start, Place}
 use Rattle.core_checks.specs.Checks.{length_checked, section_checked, section_start, end_checked, Written}
-use Rattle.core_read.specs.declared.error.Refusal.{Refusal}
 use Rattle.core_read.specs.declared.cursor.ByteOrder.{ByteOrder}
 use Rattle.core_read.specs.declared.cursor.Cursor.{Cursor}
-use Rattle.core_checks.proofs.Checked.{end_cleared, end_stays, wrote, not_wrote}
-use Rattle.core_write.proofs.Puts.{◌then◌, put_as, put_at, put_none}
+use Rattle.core_checks.proofs.Checked.{end_cleared, wrote}
+use Rattle.core_write.proofs.Chain.{◌then◌, puts_as, puts_none}
+use Rattle.core_write.proofs.Puts.{put_as}
+use Rattle.core_write.specs.Puts.{Puts}
+use Rattle.core_write.specs.declared.writer.Writer.{Writer}
 use Rattle.pane_read.specs.Pane.{encode_pane, Sound}
 use Rattle.pane_checks.specs.Checks.{names_checked, reserve_checked}
 use Rattle.pane_read.specs.declared.Pane.{Pane}
@@ -35,9 +37,9 @@ use Rattle.strip_records.specs.Whole.{Whole, whole, pan1, pic1, txt1, wnd1, ali1
 use Rattle.strip_write.specs.Write.{own_length_checked, own_name_checked, own_checked, body_length, encode_body, section_size, size_of, section, write_checked, write_answer, write_output}
 use Rattle.strip_records.specs.declared.kind.Kind.TheVariants.{Pan1, Pic1, Txt1, Wnd1, Ali1}
 use Rattle.strip_records.specs.declared.record.Record.{Record}
-use Rattle.strip_write.proofs.Cleared.{OwnGood, before_end, checks_cleared, write_cleared}
+use Rattle.strip_write.proofs.Cleared.{OwnGood, before_end, checks_cleared}
 use Rattle.strip_write.proofs.Steps.{room, size_parts}
-use Rattle.std.specs.Prelude.{Err, Ok}
+use Rattle.std.specs.Prelude.{Ok}
 
 -- ---- any kind
 
@@ -68,17 +70,23 @@ section_bytes : (order : ByteOrder) (w : Whole) (p m : ℕ) → m ≡ body_lengt
 unfolding section
 section_bytes order w p m f = rw f (append_assoc (letter_bytes w.pane.kind) (bytes_of order 4 (size_of p w)) _)
 
--- accepted: header, body, padding
-pub written : (order : ByteOrder) (w : Whole) (m y : ℕ) {o o₁ o₂ o₃ : List ℕ} {p a b z : ℕ} (c : Cursor) → write_checked w (length o) p ≡ Ok c
-    → m ≡ body_length w.pane.kind (p + 8) w → y ≡ padding m
-    → Put o p 8 (letter_bytes w.pane.kind ++ bytes_of order 4 (section_size m)) a o₁
-    → Put o₁ a (body_length w.pane.kind (p + 8) w) (encode_body w.pane.kind order (p + 8) w) b o₂
-    → Put o₂ b y (replicate y 0) z o₃
-    → (Ok z ≡ write_answer w (length o) p) × (o₃ ≡ write_output order w o p)
+-- header, body, padding
+laid : (w : Whole) (m y : ℕ) {a b c d : Writer} → m ≡ body_length w.pane.kind (a.place + 8) w → y ≡ padding m
+    → Puts a b 8 (λ order. letter_bytes w.pane.kind ++ bytes_of order 4 (section_size m))
+    → Puts b c (body_length w.pane.kind (a.place + 8) w) (λ order. encode_body w.pane.kind order (a.place + 8) w)
+    → Puts c d y (λ order. replicate y 0)
+    → Puts a d (section_size m) (λ order. section order a.place w)
+laid w m y {a} f g header body zeros =
+    let zeros' = puts_as g (λ order. ap (λ (n : ℕ). replicate n 0) g) zeros in
+    let body' = puts_as (sym f) (λ order. refl) body in
+    puts_as (size_of_lem m) (λ order. section_bytes order w a.place m f) (header then body' then zeros')
+
+-- accepted
+pub written : (w : Whole) (m : ℕ) {a d : Writer} (k : Cursor) → write_checked w (length a.out.now) a.place ≡ Ok k → m ≡ body_length w.pane.kind (a.place + 8) w
+    → Puts a d (section_size m) (λ order. section order a.place w)
+    → (Ok d.place ≡ write_answer w (length a.out.now) a.place) × (d.out.now ≡ write_output a.order w a.out.now a.place)
 unfolding write_answer write_output
-written order w m y c h f g header body zeros =
-    let zeros' = put_as g (ap (λ (k : ℕ). replicate k 0) g) zeros in
-    wrote _ _ h (put_as (size_of_lem m ∙ ap section_size f) (section_bytes order w _ m f) (header then put_as (sym f) refl body then zeros'))
+written w m k h f x = wrote _ _ h (put_as (ap section_size f) refl x.put)
 
 -- ---- the checks of each kind before 16: what the last of them answers where those before it were passed
 
@@ -130,38 +138,42 @@ pub window_length_lem : (p : ℕ) (quads frames : List ℕ) (x : ℕ) → x ≡ 
 unfolding window.body_length
 window_length_lem p quads frames x e = rw e
 
-module _ (order : ByteOrder) (base : Pane) {o o₁ o₂ : List ℕ} {p a z : ℕ} (c : Cursor) where
-  pub pan1_written : write_checked (whole (pan1 base) [] [] [] [] []) (length o) p ≡ Ok c → Put o p 8 (letter_bytes Pan1 ++ bytes_of order 4 (section_size 76)) a o₁
-      → Put o₁ a 76 (encode_pane order base) z o₂
-      → (Ok z ≡ write_answer (whole (pan1 base) [] [] [] [] []) (length o) p) × (o₂ ≡ write_output order (whole (pan1 base) [] [] [] [] []) o p)
+module _ (base : Pane) {a b c : Writer} where
+  pub pan1_laid : Puts a b 8 (λ order. letter_bytes Pan1 ++ bytes_of order 4 (section_size 76)) → Puts b c 76 (λ order. encode_pane order base)
+      → Puts a c (section_size 76) (λ order. section order a.place (whole (pan1 base) [] [] [] [] []))
   unfolding encode_body padding
-  pan1_written e header body = written order (whole (pan1 base) [] [] [] [] []) 76 0 c e refl refl header body (put_none _ _)
+  pan1_laid header body = laid (whole (pan1 base) [] [] [] [] []) 76 0 refl refl header body (puts_none _)
 
-  pub ali1_written : (own : AlignmentPane) → write_checked (whole (ali1 base own) [] [] [] [] []) (length o) p ≡ Ok c → Put o p 8 (letter_bytes Ali1 ++ bytes_of order 4 (section_size 88)) a o₁
-      → Put o₁ a 88 (alignment.encode_body order base own) z o₂
-      → (Ok z ≡ write_answer (whole (ali1 base own) [] [] [] [] []) (length o) p) × (o₂ ≡ write_output order (whole (ali1 base own) [] [] [] [] []) o p)
+  pub ali1_laid : (own : AlignmentPane) → Puts a b 8 (λ order. letter_bytes Ali1 ++ bytes_of order 4 (section_size 88)) → Puts b c 88 (λ order. alignment.encode_body order base own)
+      → Puts a c (section_size 88) (λ order. section order a.place (whole (ali1 base own) [] [] [] [] []))
   unfolding encode_body padding
-  ali1_written own e header body = written order (whole (ali1 base own) [] [] [] [] []) 88 0 c e refl refl header body (put_none _ _)
+  ali1_laid own header body = laid (whole (ali1 base own) [] [] [] [] []) 88 0 refl refl header body (puts_none _)
 
-module _ (order : ByteOrder) (base : Pane) {o o₁ o₂ o₃ : List ℕ} {p a b z : ℕ} (m y : ℕ) (c : Cursor) (g : y ≡ padding m) (zeros : Put o₂ b y (replicate y 0) z o₃) where
-  pub pic1_written : (own : PicturePane) (quads : List ℕ) → write_checked (whole (pic1 base own) quads [] [] [] []) (length o) p ≡ Ok c → m ≡ picture.body_length own quads
-      → Put o p 8 (letter_bytes Pic1 ++ bytes_of order 4 (section_size m)) a o₁ → Put o₁ a (picture.body_length own quads) (picture.encode_body order base own quads) b o₂
-      → (Ok z ≡ write_answer (whole (pic1 base own) quads [] [] [] []) (length o) p) × (o₃ ≡ write_output order (whole (pic1 base own) quads [] [] [] []) o p)
+module _ (base : Pane) {a b c d : Writer} (m y : ℕ) (g : y ≡ padding m) (zeros : Puts c d y (λ order. replicate y 0)) where
+  pub pic1_laid : (own : PicturePane) (quads : List ℕ) → m ≡ picture.body_length own quads
+      → Puts a b 8 (λ order. letter_bytes Pic1 ++ bytes_of order 4 (section_size m)) → Puts b c (picture.body_length own quads) (λ order. picture.encode_body order base own quads)
+      → Puts a d (section_size m) (λ order. section order a.place (whole (pic1 base own) quads [] [] [] []))
   unfolding encode_body
-  pic1_written own quads e f header body = written order (whole (pic1 base own) quads [] [] [] []) m y c e f g header body zeros
+  pic1_laid own quads f header body = laid (whole (pic1 base own) quads [] [] [] []) m y f g header body zeros
 
-  pub wnd1_written : (own : WindowPane) (quads frames : List ℕ) → write_checked (whole (wnd1 base own) quads [] [] frames []) (length o) p ≡ Ok c → m ≡ window.body_length (p + 8) quads frames
-      → Put o p 8 (letter_bytes Wnd1 ++ bytes_of order 4 (section_size m)) a o₁ → Put o₁ (p + 8) (window.body_length (p + 8) quads frames) (window.encode_body order (p + 8) base own quads frames) b o₂
-      → (Ok z ≡ write_answer (whole (wnd1 base own) quads [] [] frames []) (length o) p) × (o₃ ≡ write_output order (whole (wnd1 base own) quads [] [] frames []) o p)
+  pub wnd1_laid : (own : WindowPane) (quads frames : List ℕ) → m ≡ window.body_length (a.place + 8) quads frames
+      → Puts a b 8 (λ order. letter_bytes Wnd1 ++ bytes_of order 4 (section_size m)) → Puts b c (window.body_length b.place quads frames) (λ order. window.encode_body order b.place base own quads frames)
+      → Puts a d (section_size m) (λ order. section order a.place (whole (wnd1 base own) quads [] [] frames []))
   unfolding encode_body
-  wnd1_written own quads frames e f header body = written order (whole (wnd1 base own) quads [] [] frames []) m y c e f g header (put_at (sym header.place) body) zeros
+  wnd1_laid own quads frames f header body =
+      let at = header.put.place in
+      let body' = puts_as (ap (λ (q : ℕ). window.body_length q quads frames) at) (λ order. ap (λ (q : ℕ). window.encode_body order q base own quads frames) at) body in
+      laid (whole (wnd1 base own) quads [] [] frames []) m y f g header body' zeros
 
-  pub txt1_written : (own : TextBoxPane) (units lines label : List ℕ) → write_checked (whole (txt1 base own) [] units lines [] label) (length o) p ≡ Ok c → m ≡ 76 + text_box_length (p + 8) own units lines label
-      → Put o p 8 (letter_bytes Txt1 ++ bytes_of order 4 (section_size m)) a o₁
-      → Put o₁ (p + 8) (76 + text_box_length (p + 8) own units lines label) (text-box.encode_body order (p + 8) base own units lines label) b o₂
-      → (Ok z ≡ write_answer (whole (txt1 base own) [] units lines [] label) (length o) p) × (o₃ ≡ write_output order (whole (txt1 base own) [] units lines [] label) o p)
+  pub txt1_laid : (own : TextBoxPane) (units lines label : List ℕ) → m ≡ 76 + text_box_length (a.place + 8) own units lines label
+      → Puts a b 8 (λ order. letter_bytes Txt1 ++ bytes_of order 4 (section_size m))
+      → Puts b c (76 + text_box_length b.place own units lines label) (λ order. text-box.encode_body order b.place base own units lines label)
+      → Puts a d (section_size m) (λ order. section order a.place (whole (txt1 base own) [] units lines [] label))
   unfolding encode_body
-  txt1_written own units lines label e f header body = written order (whole (txt1 base own) [] units lines [] label) m y c e f g header (put_at (sym header.place) body) zeros
+  txt1_laid own units lines label f header body =
+      let at = header.put.place in
+      let body' = puts_as (ap (λ (q : ℕ). 76 + text_box_length q own units lines label) at) (λ order. ap (λ (q : ℕ). text-box.encode_body order q base own units lines label) at) body in
+      laid (whole (txt1 base own) [] units lines [] label) m y f g header body' zeros
 
 -- ---- what a kind lacks is not looked at
 

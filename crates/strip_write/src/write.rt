@@ -1,25 +1,34 @@
 // The section write.
 ghost use Rattle.std.specs.Prelude.{[], ◌++◌, ◌≡◌, ◌+◌, ◌^◌, ◌≤◌, ◌<◌, length};
-ghost use Rattle.core_read.specs.Bytes.{bytes_of, Room, Put};
+ghost use Rattle.core_read.specs.Bytes.{bytes_of, padding};
 ghost use Rattle.core_read.specs.Taken.{start};
 ghost use Rattle.core_checks.specs.Answered.{Clears, Lets};
 ghost use Rattle.core_checks.specs.Checks.{length_checked, section_checked, section_start, end_checked, written_by_number};
+ghost use Rattle.core_write.specs.Puts.{HasRoom, Puts};
+ghost use Rattle.pane_read.specs.Pane.{Sound};
+ghost use Rattle.picture_fields.specs.Picture.{GoodPicture};
+ghost use Rattle.picture.specs.Body as picture_body;
+ghost use Rattle.text_box_write.specs.Written.{Small, text_box_length};
+ghost use Rattle.window_write.specs.Write.{GoodWindow};
+ghost use Rattle.window.specs.Body as window_body;
 ghost use Rattle.pane_checks.specs.Checks.{names_checked, reserve_checked};
 ghost use Rattle.text_box_parts.specs.Parts.{label_part};
 ghost use Rattle.text_box_checks.specs.Checks.{label_length_checked, label_name_checked};
 ghost use Rattle.strip_records.specs.Kinds.{letter_bytes};
+ghost use Rattle.strip_records.specs.Held.{handed};
 ghost use Rattle.strip_records.specs.Whole.{whole, pan1, pic1, txt1, wnd1, ali1};
-ghost use Rattle.strip_write.specs.Write.{section_size, write_answer, write_output};
+ghost use Rattle.strip_write.specs.Write.{section_size, section, write_answer, write_output};
 
 use alignment::AlignmentPane;
 use core_checks::checks;
 use core_read::cursor::ByteOrder;
 use core_read::error::Refusal;
-use core_write::writer;
+use core_write::writer::{Writer, padding_at};
 use pane::Pane;
 use pane_checks::checks::{names_checked, reserve_checked};
 use picture::PicturePane;
 use strip_records::kind::Kind;
+use strip_records::lists::Content;
 use strip_records::record::Record;
 use text_box::{Span, TextBoxPane};
 use text_box_checks::{label_length_checked, label_name_checked};
@@ -30,7 +39,7 @@ fn section_size(n: usize) -> usize
     requires { n < 2 ^ 31 }
     ensures { result ≡ section_size n }
 {
-    8 + n + writer::padding_at(n)
+    8 + n + padding_at(n)
 }
 
 // 1, 2, 9 of the names, and 10.
@@ -71,15 +80,84 @@ fn end_checked(n: usize, length: usize, place: usize) -> Result<(), Refusal>
     checks::end_checked(place, section_size(n), length)
 }
 
-// Letters and size of a section with a body of n bytes.
-fn put_header(order: ByteOrder, out: &mut [u8], p: usize, kind: Kind, n: usize) -> usize
-    requires { (n < 2 ^ 31) × Room out.old p 8 }
-    ensures { Put out.old p 8 (letter_bytes kind ++ bytes_of order 4 (section_size n)) result out.new }
+// Letters and size of a section with a body of n bytes. The letters are bytes in a row, whatever the order.
+fn put_header<'a, 's>(w: &'s mut Writer<'a>, kind: Kind, n: usize)
+    requires { (n < 2 ^ 31) × HasRoom w.old 8 }
+    ensures { Puts w.old w.new 8 (λ order. letter_bytes kind ++ bytes_of order 4 (section_size n)) }
 {
     let letters = kind.letters();
     let size = section_size(n);
-    let q = writer::put_u32(ByteOrder::Little, out, p, letters);
-    writer::put_u32(order, out, q, size as u32)
+    let order = w.order;
+    w.order = ByteOrder::Little;
+    w.put_number(letters);
+    w.order = order;
+    w.put_number(size as u32);
+}
+
+// ---- a section, by kind: header, body of n bytes, and zeros to a multiple of 4
+
+fn put_pan1<'a, 's>(w: &'s mut Writer<'a>, base: Pane)
+    requires { Sound base × HasRoom w.old 84 }
+    ensures { Puts w.old w.new (section_size 76) (λ order. section order w.old.place (whole (pan1 base) [] [] [] [] [])) }
+{
+    put_header(w, Kind::Pan1, 76);
+    pane::put_pane(w, base);
+}
+
+fn put_ali1<'a, 's>(w: &'s mut Writer<'a>, base: Pane, own: AlignmentPane)
+    requires { Sound base × HasRoom w.old 96 }
+    ensures { Puts w.old w.new (section_size 88) (λ order. section order w.old.place (whole (ali1 base own) [] [] [] [] [])) }
+{
+    put_header(w, Kind::Ali1, 88);
+    alignment::body::put_body(w, base, own);
+}
+
+fn put_pic1<'a, 's>(w: &'s mut Writer<'a>, base: Pane, own: PicturePane, quads: &[u32], n: usize)
+    requires length { (n ≡ picture_body.body_length own quads.now) × (n < 2 ^ 31) }
+    requires good { Sound base × GoodPicture quads.now }
+    requires room { HasRoom w.old (8 + n + padding n) }
+    ensures { Puts w.old w.new (section_size n) (λ order. section order w.old.place (whole (pic1 base own) quads.now [] [] [] [])) }
+{
+    put_header(w, Kind::Pic1, n);
+    picture::body::put_body(w, base, own, quads);
+    w.put_zeros(padding_at(n));
+}
+
+fn put_txt1<'a, 's>(
+    w: &'s mut Writer<'a>,
+    base: Pane,
+    own: TextBoxPane,
+    units: &[u16],
+    lines: &[u32],
+    label: &[u8],
+    n: usize,
+)
+    requires length { (n ≡ 76 + text_box_length (w.old.place + 8) own units.now lines.now label.now) × (n < 2 ^ 31) }
+    requires good { Sound base × Small own units.now lines.now label.now × (w.old.place < 2 ^ 31) }
+    requires room { HasRoom w.old (8 + n + padding n) }
+    ensures { Puts w.old w.new (section_size n) (λ order. section order w.old.place (whole (txt1 base own) [] units.now lines.now [] label.now)) }
+{
+    put_header(w, Kind::Txt1, n);
+    text_box::body::put_body(w, base, own, units, lines, label);
+    w.put_zeros(padding_at(n));
+}
+
+fn put_wnd1<'a, 's>(
+    w: &'s mut Writer<'a>,
+    base: Pane,
+    own: WindowPane,
+    quads: &[u32],
+    frames: &[u16],
+    n: usize,
+)
+    requires length { (n ≡ window_body.body_length (w.old.place + 8) quads.now frames.now) × (n < 2 ^ 31) }
+    requires good { Sound base × GoodWindow quads.now frames.now × (w.old.place < 2 ^ 31) }
+    requires room { HasRoom w.old (8 + n + padding n) }
+    ensures { Puts w.old w.new (section_size n) (λ order. section order w.old.place (whole (wnd1 base own) quads.now [] [] frames.now [])) }
+{
+    put_header(w, Kind::Wnd1, n);
+    window::body::put_body(w, base, own, quads, frames);
+    w.put_zeros(padding_at(n));
 }
 
 // ---- the section at a place, by kind. A refusal leaves the output as it was; an accepted write answers its end, and changes no byte but its own.
@@ -98,8 +176,9 @@ pub fn write_pan1(
     let length = out.len();
     base_checked(base, length, place)?;
     end_checked(76, length, place)?;
-    let q = put_header(order, out, place, Kind::Pan1, 76);
-    Ok(pane::put_pane(order, out, q, base))
+    let mut w = Writer { order, out, place };
+    put_pan1(&mut w, base);
+    Ok(w.place)
 }
 
 // A picture pane: checks 1, 2, 9, 10, 11 and 16.
@@ -120,10 +199,9 @@ pub fn write_pic1(
     picture_fields::picture_checked(quads)?;
     let n = picture::body::body_length(own, quads);
     end_checked(n, length, place)?;
-    let zeros = writer::padding_at(n);
-    let q = put_header(order, out, place, Kind::Pic1, n);
-    let q = picture::body::put_body(order, out, q, base, own, quads);
-    Ok(writer::put_zeros(out, q, zeros))
+    let mut w = Writer { order, out, place };
+    put_pic1(&mut w, base, own, quads, n);
+    Ok(w.place)
 }
 
 // A text box: checks 1, 2, 9, 10, 11, 13, 14, 15 and 16.
@@ -148,10 +226,9 @@ pub fn write_txt1(
     let body = place + 8;
     let n = 76 + text_box_write::write::text_box_length(body, own, units, lines, label);
     end_checked(n, length, place)?;
-    let zeros = writer::padding_at(n);
-    put_header(order, out, place, Kind::Txt1, n);
-    let q = text_box::body::put_body(order, out, body, base, own, units, lines, label);
-    Ok(writer::put_zeros(out, q, zeros))
+    let mut w = Writer { order, out, place };
+    put_txt1(&mut w, base, own, units, lines, label, n);
+    Ok(w.place)
 }
 
 // A window pane: checks 1, 2, 9, 10, 11, 12 and 16.
@@ -174,10 +251,9 @@ pub fn write_wnd1(
     let body = place + 8;
     let n = 76 + window_write::write::window_length(body, quads.len(), frames.len());
     end_checked(n, length, place)?;
-    let zeros = writer::padding_at(n);
-    put_header(order, out, place, Kind::Wnd1, n);
-    let q = window::body::put_body(order, out, body, base, own, quads, frames);
-    Ok(writer::put_zeros(out, q, zeros))
+    let mut w = Writer { order, out, place };
+    put_wnd1(&mut w, base, own, quads, frames, n);
+    Ok(w.place)
 }
 
 // An alignment pane: checks 1, 2, 9, 10 and 16.
@@ -195,8 +271,9 @@ pub fn write_ali1(
     let length = out.len();
     base_checked(base, length, place)?;
     end_checked(88, length, place)?;
-    let q = put_header(order, out, place, Kind::Ali1, 88);
-    Ok(alignment::body::put_body(order, out, q, base, own))
+    let mut w = Writer { order, out, place };
+    put_ali1(&mut w, base, own);
+    Ok(w.place)
 }
 
 // The section of a record at a place: the write of its kind.
@@ -204,18 +281,21 @@ pub fn write_ali1(
 pub fn write_section(
     order: ByteOrder,
     r: Record,
-    quads: &[u32],
-    units: &[u16],
-    lines: &[u32],
-    frames: &[u16],
-    label: &[u8],
+    content: Content,
     out: &mut [u8],
     place: usize,
 ) -> Result<usize, Refusal>
-    ensures value { result ≡ write_answer (whole r quads.now units.now lines.now frames.now label.now) (length out.old) place }
-    ensures out_after { out.new ≡ write_output order (whole r quads.now units.now lines.now frames.now label.now) out.old place }
-    ensures result_value { written_by_number result ≡ written_by_number (write_answer (whole r quads.now units.now lines.now frames.now label.now) (length out.old) place) }
+    ensures value { result ≡ write_answer (handed r content.entry) (length out.old) place }
+    ensures out_after { out.new ≡ write_output order (handed r content.entry) out.old place }
+    ensures result_value { written_by_number result ≡ written_by_number (write_answer (handed r content.entry) (length out.old) place) }
 {
+    let Content {
+        quads,
+        units,
+        lines,
+        frames,
+        label,
+    } = content;
     let kind = r.kind;
     match kind {
         Kind::Pan1 => write_pan1(order, r.base, out, place),

@@ -11,7 +11,7 @@ use borrow.Author.Tests.{ne_eqb}
 use Rattle.utf8.proofs.Tests.{and_none}
 use Rattle.core_read.specs.Bytes.{bytes_of, bytes_of_all, padding}
 use Rattle.core_read.specs.Taken.{start, advanced, moved, sought}
-use Rattle.core_read.specs.declared.cursor.Taken.{Taken}
+use Rattle.core_read.specs.Taken.{Taken}
 use Rattle.core_read.specs.Lists.{numbers_taken, numbers_at}
 use Rattle.core_checks.specs.Checks.{unless_refused}
 use Rattle.core_read.specs.declared.cursor.ByteOrder.{ByteOrder}
@@ -24,9 +24,8 @@ use Rattle.core_read.proofs.Back.{Holds, split, holds_fits, length_all, number_b
 use Rattle.ui2d.proofs.Parts.{Fits, numbers_at_lem}
 use Rattle.text_box_parts.specs.declared.Text.{Text}
 use Rattle.text_box_parts.specs.declared.Text.TheVariants as text
-use Rattle.text_box_parts.specs.declared.parts.TextTaken.{TextTaken}
-use Rattle.text_box_parts.specs.declared.parts.LabelTaken.{LabelTaken}
-use Rattle.text_box_parts.specs.declared.parts.LinesTaken.{LinesTaken}
+use Rattle.text_box_parts.specs.declared.parts.TextFound.{TextFound}
+use Rattle.text_box_parts.specs.declared.parts.LinesFound.{LinesFound}
 use Rattle.text_box_parts.specs.Parts.{place_of, Part, absent, present, text_at, text_taken, label_at, label_taken, lines_at, lines_taken, column, Label, LineTable}
 use Rattle.text_box_write.specs.Written.{text_offset, part_offset, text_width, label_width, line_width, encode_text, encode_label, encode_lines}
 use Rattle.text_box_write.proofs.Columns.{length_column}
@@ -169,8 +168,8 @@ module _ (s : List ℕ) (order : ByteOrder) (body : ℕ) (d : Cursor) (low : 8 �
   home a = seek_to s a (body + 160) (body + 160) refl fit
 
   pub text_back : (long : ℕ) (found : Part) → GoodText long found → Bounded 2 found → Holds s (place_of body 168) (encode_text order found)
-      → ◌≡◌ {A = TextTaken} (text_taken order s (Ok d) body (text_offset found) long)
-      (record { text = read_text found; place = text_place body found; then = Ok (after_text body d found) })
+      → ◌≡◌ {A = Taken TextFound} (text_taken order s (Ok d) body (text_offset found) long)
+      (record { value = record { text = read_text found; place = text_place body found }; then = Ok (after_text body d found) })
   unfolding text_taken text_at unless_refused
   text_back long absent g b h = refl
   text_back long (present u) g b h =
@@ -194,7 +193,7 @@ module _ (s : List ℕ) (order : ByteOrder) (body : ℕ) (d : Cursor) (low : 8 �
     some = ne_eqb (end + padding at) 0 (λ z. omega arith)
 
     pub label_read : (name : Part) → GoodLabel name → Holds s at (encode_label at name)
-        → ◌≡◌ {A = LabelTaken} (label_taken s (Ok d) body (part_offset at end name)) (record { label = read_label at name; then = Ok (after_label body d at name) })
+        → ◌≡◌ {A = Taken Label} (label_taken s (Ok d) body (part_offset at end name)) (record { value = read_label at name; then = Ok (after_label body d at name) })
     unfolding label_taken label_at
     label_read absent g h = refl
     label_read (present bytes) g h =
@@ -209,8 +208,8 @@ module _ (s : List ℕ) (order : ByteOrder) (body : ℕ) (d : Cursor) (low : 8 �
         )
 
     pub lines_read : (line : Bool) (table : Part) → GoodLines table → Set table line → Bounded 4 table → Holds s at (encode_lines order at table)
-        → ◌≡◌ {A = LinesTaken} (lines_taken order s (Ok d) body line (part_offset at end table))
-        (record { line_table = read_table table; place = table_place at table; then = Ok (after_lines body d at table) })
+        → ◌≡◌ {A = Taken LinesFound} (lines_taken order s (Ok d) body line (part_offset at end table))
+        (record { value = record { table = read_table table; place = table_place at table }; then = Ok (after_lines body d at table) })
     unfolding lines_taken lines_at
     lines_read line absent g b f h = rw (and_none line)
     lines_read line (present l) g b f h =

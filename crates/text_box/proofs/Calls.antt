@@ -1,37 +1,37 @@
 -- The body calls as the code makes them, and what lets a body write through.
-use mathlib.Core.Path.{◌≡◌, refl, sym, ap, subst, ◌∙◌}
+use mathlib.Core.Path.{◌≡◌, refl, ap, subst}
 use Prim.Native.Nat.{ℕ, ◌+◌, ◌^◌, ◌≤◌, ◌<◌}
 use native.Mathlib.Omega.{arith}
 use mathlib.Core.List.{List}
 use Rattle.pane_checks.proofs.Cleared.{texts_cleared}
-use Rattle.core_read.specs.Taken.{start, stop_if, over, Place}
-use Rattle.core_checks.specs.Checks.{length_checked, body_checked, body_start, list_checked, reach_checked, unless_refused, Extent}
+use Rattle.core_read.specs.Taken.{start, stop_if, Place}
+use Rattle.core_checks.specs.Checks.{length_checked, body_checked, Extent}
 use Rattle.core_read.specs.declared.error.Refusal.{Refusal}
 use Rattle.core_read.specs.declared.cursor.ByteOrder.{ByteOrder}
+use Rattle.core_read.specs.Taken.{Taken}
 use Rattle.core_read.specs.declared.cursor.Cursor.{Cursor}
 use Rattle.core_read.proofs.Runs.{cleared}
 use Rattle.core_checks.proofs.Checked.{BodyOk, body_started, length_cleared, body_cleared, list_cleared, end_cleared, reach_cleared, reach_stays}
 use Rattle.pane_read.specs.Pane.{pane_taken}
 use Rattle.pane_checks.specs.Checks.{texts_checked, names_checked, reserve_checked}
 use Rattle.pane_read.specs.declared.Pane.{Pane}
-use Rattle.pane_read.specs.declared.PaneTaken.{PaneTaken}
 use Rattle.pane_read.proofs.Run.{pane_stays}
 use Rattle.pane.proofs.Calls.{texts_stay}
 use Rattle.pane.proofs.Cleared.{Good, names_cleared, reserve_cleared}
 use Rattle.text_box_read.specs.declared.TextBoxPane.{TextBoxPane}
-use Rattle.text_box_read.specs.declared.TextBoxTaken.{TextBoxTaken}
-use Rattle.text_box.specs.declared.body.TextBoxMeasured.{TextBoxMeasured}
-use Rattle.text_box.specs.declared.body.TextBoxParsed.{TextBoxParsed}
+use Rattle.pane_read.specs.declared.parsed.Measured.{Measured}
+use Rattle.text_box_read.specs.declared.TextBoxFound.{TextBoxFound}
 use Rattle.text_box_parts.specs.Parts.{label_part, Label}
-use Rattle.text_box_read.specs.TextBox.{text_box_units, text_box_lines, Standing}
+use Rattle.text_box_read.specs.TextBox.{Standing}
 use Rattle.text_box_read.specs.TextBox.{text_box_taken}
 use Rattle.text_box_write.specs.Written.{Small, text_box_length}
 use Rattle.text_box_checks.specs.Checks.{label_checked, label_length_checked, label_name_checked, text_box_checked}
-use Rattle.text_box.specs.Body.{Blank, text_box_measured, text_box_given, units_filled, lines_filled, text_box_read, units_after, lines_after, Reads, text_box_start, text_box_write_checked}
+use Rattle.text_box.specs.Body.{text_box_measured, text_box_start, text_box_write_checked}
 use Rattle.text_box_read.proofs.Came.{text_box_stays}
 use Rattle.text_box_read.proofs.Came.{text_box_came}
 use Rattle.text_box.proofs.Cleared.{GoodTextBox, label_length_cleared, label_name_cleared, text_box_early, text_box_cleared, small}
 use Rattle.std.specs.Prelude.{Err, None, Ok, Some}
+use Rattle.core_read.specs.declared.error.NumberList.TheVariants.{Units, Lines}
 
 -- ---- check 7
 
@@ -54,71 +54,32 @@ measured_stays order s why body x =
     rw (
       pane_stays order s why,
       text_box_stays order s why body,
-      texts_stay why (pane_taken order s (Err why)).pane body,
-      label_stays why s (text_box_taken order s (Err why) body).text_box.label,
+      texts_stay why (pane_taken order s (Err why)).value body,
+      label_stays why s (text_box_taken order s (Err why) body).value.text_box.label,
       reach_stays why x,
     )
 
 -- where nothing was refused the lists may be filled
-pub measured_ready : (order : ByteOrder) (s : List ℕ) (p : Place) (body : ℕ) (x : Extent) (m : TextBoxMeasured) → m ≡ text_box_measured order s p body x
-    → (c : Cursor) → m.then ≡ Ok c → Standing s m.own
+pub measured_ready : (order : ByteOrder) (s : List ℕ) (p : Place) (body : ℕ) (x : Extent) (m : Measured TextBoxFound) (c : Cursor)
+    → text_box_measured order s p body x ≡ record { value = m; then = Ok c } → Standing s m.own
 unfolding text_box_measured
-measured_ready order s p body x m e c h =
+measured_ready order s p body x m c e =
     let b = pane_taken order s p in
     let t = text_box_taken order s b.then body in
-    let q = texts_checked t.then b.pane body in
-    let k = reach_cleared (label_checked q s t.text_box.label) x c (ap (λ (z : TextBoxMeasured). z.then) (sym e) ∙ h) in
-    let l = texts_cleared t.then b.pane body c (label_cleared q s t.text_box.label c k) in
-    subst (λ (z : TextBoxMeasured). Standing s z.own) (sym e) (text_box_came order s b.then body c l)
-
-module _ (m : TextBoxMeasured) where
-  -- the lists after it
-  module _ (order : ByteOrder) (s units lines : List ℕ) where
-    pub filled : (c : Cursor) → m.then ≡ Ok c → (u l : List ℕ) → (u ≡ over (text_box_units order s m.own) units) × (l ≡ over (text_box_lines order s m.own) lines)
-        → (u ≡ units_filled order s m units) × (l ≡ lines_filled order s m lines)
-    unfolding units_filled lines_filled unless_refused
-    filled c h u l k = rw h k
-
-    pub not_filled : (why : Refusal) → m.then ≡ Err why → (units ≡ units_filled order s m units) × (lines ≡ lines_filled order s m lines)
-    unfolding units_filled lines_filled unless_refused
-    not_filled why h = rw h (refl, refl)
-
-  -- what a read gives
-  pub given_got : (c : Cursor) → m.then ≡ Ok c → (answer : Place) → answer ≡ Ok c
-      → ◌≡◌ {A = TextBoxParsed} (record { answer = answer; base = m.base; text_box = m.own.text_box }) (text_box_given m)
-  unfolding text_box_given unless_refused
-  given_got c h answer a = rw (h, a)
-
-  pub given_refused : (why : Refusal) → m.then ≡ Err why → (r : TextBoxParsed) → Blank why r → r ≡ text_box_given m
-  unfolding text_box_given unless_refused
-  given_refused why h r k = rw (h, ← k.answer, ← k.base, ← k.own)
+    let q = texts_checked t.then b.value body in
+    let k = reach_cleared (label_checked q s t.value.text_box.label) x c (ap (λ (z : Taken (Measured TextBoxFound)). z.then) e) in
+    let l = texts_cleared t.then b.value body c (label_cleared q s t.value.text_box.label c k) in
+    subst (λ (z : Taken (Measured TextBoxFound)). Standing s z.value.own) e (text_box_came order s b.then body c l)
 
 -- ---- 1, 2 and 3
 
-module _ (n nu nl body : ℕ) (p p₁ p₂ : Place) (e : p ≡ body_start n body) (f : p₁ ≡ list_checked p 2 32767 nu) (g : p₂ ≡ list_checked p₁ 3 510 nl) where
-  pub starts : p₂ ≡ text_box_start n nu nl body
-  unfolding text_box_start
-  starts = rw (g, f, e)
-
-  pub start_ok : (c : Cursor) → p₂ ≡ Ok c → (8 ≤ body) × (body < 2 ^ 32) × (32767 ≤ nu) × (510 ≤ nl)
-  start_ok c k =
-      let (a, l) = list_cleared p₁ 3 510 nl c (sym g ∙ k) in
-      let (b, u) = list_cleared p 2 32767 nu c (sym f ∙ a) in
-      let (d, o) = body_started n body c (sym e ∙ b) in
-      (o.least, omega (arith, o.most, o.within), u, l)
-
-  pub start-reads : (order : ByteOrder) (s : List ℕ) (c : Cursor) → p₂ ≡ Ok c → (u₀ l₀ : List ℕ) (r : TextBoxParsed) (u l : List ℕ)
-      → Reads order s (Ok c) body None u₀ l₀ r u l → Reads order s (text_box_start n nu nl body) body None u₀ l₀ r u l
-  start-reads order s c k u₀ l₀ r u l h = rw (← starts, k) h
-
-  pub start_refused : (order : ByteOrder) (s : List ℕ) (why : Refusal) → p₂ ≡ Err why → (r : TextBoxParsed) → Blank why r → (u l : List ℕ)
-      → Reads order s (text_box_start n nu nl body) body None u l r u l
-  unfolding text_box_read units_after lines_after
-  start_refused order s why k r z u l =
-      let m = text_box_measured order s (Err why) body None in
-      let g = measured_stays order s why body None in
-      let f = not_filled m order s u l why g in
-      rw (← starts, k) (given_refused m why g r z, f.0, f.1)
+pub started : (n nu nl body : ℕ) (c : Cursor) → text_box_start n nu nl body ≡ Ok c → (8 ≤ body) × (body < 2 ^ 32) × (32767 ≤ nu) × (510 ≤ nl)
+unfolding text_box_start
+started n nu nl body c k =
+    let (a, l) = list_cleared _ Lines 510 nl c k in
+    let (b, u) = list_cleared _ Units 32767 nu c a in
+    let (d, o) = body_started n body c b in
+    (o.least, omega (arith, o.most, o.within), u, l)
 
 -- ---- the write
 

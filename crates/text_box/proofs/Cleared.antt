@@ -17,6 +17,7 @@ use Rattle.text_box_parts.specs.Parts.{Part, absent, present, text_part, label_p
 use Rattle.text_box_write.specs.Written.{Few, Small}
 use Rattle.text_box_checks.specs.Checks.{label_length_checked, label_bad, label_name_checked, lines_checked, units_bad, bit_bad, fault_checked, utf16_checked, text_box_checked}
 use Rattle.std.specs.Prelude.{None, Ok, Some, Option}
+use Rattle.core_read.specs.declared.error.NumberList.TheVariants.{Lines}
 
 -- ---- what the checks leave of each part
 
@@ -64,7 +65,7 @@ label_name_cleared p name c e = let h = cleared p _ _ c e in (h.0, good_label na
 lines_cleared : (p : Place) (table : Part) (c : Cursor) → lines_checked p table ≡ Ok c → (p ≡ Ok c) × GoodLines table
 unfolding lines_checked
 lines_cleared p absent c e = (e, tt)
-lines_cleared p (present l) c e = let (h, w, f) = count_cleared p 3 2 (length l) c e in (h, (w, f))
+lines_cleared p (present l) c e = let (h, w, f) = count_cleared p Lines 2 (length l) c e in (h, (w, f))
 
 fault_cleared : (p : Place) (u : Option ℕ) (c : Cursor) → fault_checked p u ≡ Ok c → (p ≡ Ok c) × (is_well_formed u ≡ true)
 unfolding fault_checked

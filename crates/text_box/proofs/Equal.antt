@@ -10,6 +10,7 @@ use Rattle.core_read.specs.Taken.{advanced}
 use Rattle.core_read.specs.Lists.{numbers_at}
 use Rattle.core_read.specs.declared.cursor.ByteOrder.{ByteOrder}
 use Rattle.core_read.specs.declared.cursor.Cursor.{Cursor}
+use Rattle.core_read.specs.Taken.{Taken}
 use Rattle.core_read.proofs.Numbers.{length_bytes}
 use Rattle.core_read.proofs.Cursors.{pos_advanced, reach_level}
 use Rattle.core_read.proofs.Runs.{passed}
@@ -18,7 +19,7 @@ use Rattle.utf8.specs.Utf8.{well_formed}
 use Rattle.text_box_parts.specs.declared.Text.{Text}
 use Rattle.text_box_parts.specs.declared.Text.TheVariants as text
 use Rattle.text_box_read.specs.declared.TextBoxPane.{TextBoxPane}
-use Rattle.text_box_read.specs.declared.TextBoxTaken.{TextBoxTaken}
+use Rattle.text_box_read.specs.declared.TextBoxFound.{TextBoxFound}
 use Rattle.text_box_parts.specs.Parts.{place_of, Part, absent, present, text_part, label_part, line_part, column, units_of, lines_of, LineTable}
 use Rattle.text_box_read.specs.TextBox.{text_box_units, text_box_lines}
 use Rattle.text_box_read.specs.TextBox.{text_box_taken}
@@ -82,7 +83,7 @@ bounded_lines None l b = tt
 bounded_lines (Some count) l b = b
 
 -- what reading a text box that was written at B gives
-unfoldable pub read_back : ℕ → Cursor → TextBoxPane → List ℕ → List ℕ → List ℕ → TextBoxTaken
+unfoldable pub read_back : ℕ → Cursor → TextBoxPane → List ℕ → List ℕ → List ℕ → Taken TextBoxFound
 read_back body c x units lines label = parts_taken body c x (text_part x.text units) (label_part x.label label) (line_part x.line_table lines)
 
 -- where the run stands then: at the end of the fixed bytes, and it has looked at all that was written
@@ -116,10 +117,10 @@ module _ (s : List ℕ) (c : Cursor) (order : ByteOrder) (body : ℕ) (here : c.
   -- with the numbers that the read gives, and the label as it stands in s
   pub read_same : SameTextBox
       (record {
-        box = (read_back body c x units lines label).text_box;
-        units = text_box_units order s (read_back body c x units lines label);
-        lines = text_box_lines order s (read_back body c x units lines label);
-        label = label_of s (read_back body c x units lines label).text_box.label;
+        box = (read_back body c x units lines label).value.text_box;
+        units = text_box_units order s (read_back body c x units lines label).value;
+        lines = text_box_lines order s (read_back body c x units lines label).value;
+        label = label_of s (read_back body c x units lines label).value.text_box.label;
       })
       (record { box = x; units = units; lines = lines; label = label })
   unfolding encode_text_box read_back
@@ -168,7 +169,7 @@ label_formed s d at (present b) g e =
 
 pub label_passes : (s : List ℕ) (c d : Cursor) (order : ByteOrder) (body : ℕ) → c.pos ≡ body + 76 → 8 ≤ body → (x : TextBoxPane) (units lines label : List ℕ)
     → TypedTextBox x → GoodTextBox x units lines label → Below 2 units → Below 4 lines → Holds s c.pos (encode_text_box order body x units lines label)
-    → label_checked (Ok d) s (read_back body c x units lines label).text_box.label ≡ Ok d
+    → label_checked (Ok d) s (read_back body c x units lines label).value.text_box.label ≡ Ok d
 unfolding read_back
 label_passes s c d order body here low x units lines label t g bu bl a =
     label_formed s d (place_of body (text_end (text_part x.text units))) (label_part x.label label) g.name

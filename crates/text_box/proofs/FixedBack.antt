@@ -7,6 +7,7 @@ use lib.ListN.{length, length-append}
 use Rattle.core_read.specs.Taken.{advanced}
 use Rattle.core_read.specs.declared.cursor.ByteOrder.{ByteOrder}
 use Rattle.core_read.specs.declared.cursor.Cursor.{Cursor}
+use Rattle.core_read.specs.Taken.{Taken}
 use Rattle.core_read.proofs.Numbers.{length_bytes}
 use Rattle.core_read.proofs.Back.{Holds, cut, number_at_lem}
 use Rattle.flags.specs.Enums.{alignment_number}
@@ -20,9 +21,9 @@ use Rattle.text_box_read.specs.TextBox.{measure_kind, measure_vector}
 use Rattle.text_box_write.specs.Fixed.{encode_indices, encode_style, encode_font, encode_shadow, encode_fixed}
 use Rattle.text_box_read.specs.Typed.{TypedTextBox}
 use Rattle.text_box_read.specs.declared.TextBoxPane.{TextBoxPane}
-use Rattle.text_box_fixed.specs.declared.fixed.HeadTaken.{HeadTaken}
-use Rattle.text_box_fixed.specs.declared.fixed.FontTaken.{FontTaken}
-use Rattle.text_box_fixed.specs.declared.fixed.ShadowTaken.{ShadowTaken}
+use Rattle.text_box_fixed.specs.declared.fixed.TextHead.{TextHead}
+use Rattle.text_box_fixed.specs.declared.fixed.TextFont.{TextFont}
+use Rattle.text_box_fixed.specs.declared.fixed.TextShadow.{TextShadow}
 use Rattle.std.specs.Prelude.{Ok}
 
 -- ---- lengths
@@ -54,40 +55,46 @@ small_alignment : (a : TextAlignment) → alignment_number a < 256 ^ 1
 small_alignment a = omega (arith, alignment_le a)
 
 -- what the three chunks read as
-abbrev pub head_back : TextBoxPane → Cursor → HeadTaken
+abbrev pub head_back : TextBoxPane → Cursor → Taken TextHead
 head_back x d = record {
-  text_buffer_size = x.text_buffer_size;
-  text_length = x.text_length;
-  material_index = x.material_index;
-  font_index = x.font_index;
-  text_origin = x.text_origin;
-  text_alignment = x.text_alignment;
-  word = record { flags = x.text_flags; measure = measure_kind x.font_measure };
-  italic_tilt = x.italic_tilt;
+  value = record {
+    text_buffer_size = x.text_buffer_size;
+    text_length = x.text_length;
+    material_index = x.material_index;
+    font_index = x.font_index;
+    text_origin = x.text_origin;
+    text_alignment = x.text_alignment;
+    word = record { flags = x.text_flags; measure = measure_kind x.font_measure };
+    italic_tilt = x.italic_tilt;
+  };
   then = Ok d;
 }
 
-abbrev pub font_back : TextBoxPane → ℕ → ℕ → Cursor → FontTaken
+abbrev pub font_back : TextBoxPane → ℕ → ℕ → Cursor → Taken TextFont
 font_back x t l d = record {
-  text_offset = t;
-  top_color = x.font_top_color;
-  bottom_color = x.font_bottom_color;
-  measure = measure_vector x.font_measure;
-  character_space = x.character_space;
-  line_space = x.line_space;
-  label_offset = l;
+  value = record {
+    text_offset = t;
+    top_color = x.font_top_color;
+    bottom_color = x.font_bottom_color;
+    measure = measure_vector x.font_measure;
+    character_space = x.character_space;
+    line_space = x.line_space;
+    label_offset = l;
+  };
   then = Ok d;
 }
 
-abbrev pub shadow_back : TextBoxPane → ℕ → Cursor → ShadowTaken
+abbrev pub shadow_back : TextBoxPane → ℕ → Cursor → Taken TextShadow
 shadow_back x n d = record {
-  translation = x.shadow_translation;
-  size = x.shadow_size;
-  top_color = x.shadow_top_color;
-  bottom_color = x.shadow_bottom_color;
-  italic_tilt = x.shadow_italic_tilt;
-  line_offset = n;
-  per_character_offset = 0;
+  value = record {
+    translation = x.shadow_translation;
+    size = x.shadow_size;
+    top_color = x.shadow_top_color;
+    bottom_color = x.shadow_bottom_color;
+    italic_tilt = x.shadow_italic_tilt;
+    line_offset = n;
+    per_character_offset = 0;
+  };
   then = Ok d;
 }
 

@@ -7,6 +7,7 @@ use lib.ListN.{length, length-append, length-replicate}
 use Rattle.core_read.specs.Taken.{advanced, stop_if}
 use Rattle.core_read.specs.declared.cursor.ByteOrder.{ByteOrder}
 use Rattle.core_read.specs.declared.cursor.Cursor.{Cursor}
+use Rattle.core_read.specs.Taken.{Taken}
 use Rattle.core_read.proofs.Numbers.{length_bytes}
 use Rattle.core_read.proofs.Cursors.{advanced_zero}
 use Rattle.core_write.proofs.Padding.{padding_small}
@@ -14,7 +15,7 @@ use Rattle.core_read.proofs.Back.{Holds, split, holds_fits, length_all}
 use Rattle.text_box_read.specs.declared.FontMeasure.{FontMeasure}
 use Rattle.text_box_read.specs.declared.FontMeasure.TheVariants as measure
 use Rattle.text_box_read.specs.declared.TextBoxPane.{TextBoxPane}
-use Rattle.text_box_read.specs.declared.TextBoxTaken.{TextBoxTaken}
+use Rattle.text_box_read.specs.declared.TextBoxFound.{TextBoxFound}
 use Rattle.text_box_read.specs.TextBox.{measure_kind, measure_vector}
 use Rattle.text_box_write.specs.Fixed.{encode_fixed}
 use Rattle.text_box_parts.specs.Parts.{place_of, Part, absent, present, text_part, label_part, line_part, per_character_checked}
@@ -116,11 +117,13 @@ reach_parts body d low e found name table =
     let t = reach_lines body (after_label body (after_text body d found) (place_of body (text_end found)) name) (place_of body (label_end body found name)) (omega (arith, b)) table in
     omega (arith, t)
 
-abbrev pub parts_taken : ℕ → Cursor → TextBoxPane → Part → Part → Part → TextBoxTaken
+abbrev pub parts_taken : ℕ → Cursor → TextBoxPane → Part → Part → Part → Taken TextBoxFound
 parts_taken body c x found name table = record {
-  text_box = parts_back body x found name table;
-  text_place = text_place body found;
-  lines_place = table_place (place_of body (label_end body found name)) table;
+  value = record {
+    text_box = parts_back body x found name table;
+    text_place = text_place body found;
+    lines_place = table_place (place_of body (label_end body found name)) table;
+  };
   then = Ok (after_parts body (advanced c 84) found name table);
 }
 

@@ -8,11 +8,13 @@ use Rattle.utf16.specs.Utf16.{utf16_of}
 use Rattle.text_box_read.specs.declared.TextBoxPane.{TextBoxPane}
 use Rattle.text_box_parts.specs.Parts.{Part, absent, present, text_part, line_part, Label, LineTable}
 use Rattle.text_box_caption.specs.Caption.{label_of}
+use Rattle.core_read.specs.declared.error.NumberList.TheVariants.{Lines}
+use Rattle.core_read.specs.declared.error.CheckedText.TheVariants as checked
 
 -- 7: the label that was read is ill-formed UTF-8
 unfoldable pub label_checked : Place → List ℕ → Label → Place
 label_checked p s None = p
-label_checked p s (Some span) = stop_if p (not (well_formed (label_of s (Some span)))) (IllFormedUtf8 span.place 3)
+label_checked p s (Some span) = stop_if p (not (well_formed (label_of s (Some span)))) (IllFormedUtf8 span.place checked.Label)
 
 -- 1: a label to write, longer than 16,777,216
 unfoldable pub label_length_checked : Place → Part → Place
@@ -26,12 +28,12 @@ label_bad (present bytes) = has_zero bytes || not (well_formed bytes)
 
 -- 9: the label
 unfoldable pub label_name_checked : Place → Part → Place
-label_name_checked p name = stop_if p (label_bad name) (BadName 3)
+label_name_checked p name = stop_if p (label_bad name) (BadName checked.Label)
 
 -- 11: lines not 2n numbers, n at most 255: list 3
 unfoldable pub lines_checked : Place → Part → Place
 lines_checked p absent = p
-lines_checked p (present l) = count_checked p 3 2 (length l)
+lines_checked p (present l) = count_checked p Lines 2 (length l)
 
 -- text present, units not text_length / 2 rounded down
 unfoldable pub units_bad : Part → ℕ → Bool

@@ -8,24 +8,27 @@ ghost use Rattle.core_checks.specs.Answered.{Lets};
 ghost use Rattle.text_box_checks.specs.Checks.{label_checked, label_length_checked, label_bad, label_name_checked, lines_checked, units_bad, bit_bad, fault_checked, utf16_checked, text_box_checked};
 
 use core_checks::checks;
-use core_read::cursor::Place;
-use core_read::error::Refusal;
-use core_read::{cursor, text};
+use core_read::error::{CheckedText, NumberList, Refusal};
+use core_read::text;
 use text_box_parts::{Span, Text};
 use text_box_read::TextBoxPane;
 
 // 7, of a label that was read.
-pub fn label_checked(p: Place, data: &[u8], label: Option<Span>) -> Place
-    ensures { result ≡ label_checked p «data».now label }
+#[tactic(auto, unfolding(crate::specs::Checks::label_checked, core_read::specs::Taken::stop_if))]
+pub fn label_checked(data: &[u8], label: Option<Span>) -> Result<(), Refusal>
+    ensures { Lets result (λ p. label_checked p «data».now label) }
 {
-    match label {
-        None => p,
-        Some(Span { place, length: _ }) => {
-            let bytes = text_box_caption::caption::label(data, label);
-            let formed = utf8::well_formed(bytes);
-            cursor::stop_if(p, !formed, Refusal::IllFormedUtf8 { place, which: 3 })
-        }
+    let Some(Span { place, length: _ }) = label else {
+        return Ok(());
+    };
+    let bytes = text_box_caption::caption::label(data, label);
+    if !utf8::well_formed(bytes) {
+        return Err(Refusal::IllFormedUtf8 {
+            place,
+            which: CheckedText::Label,
+        });
     }
+    Ok(())
 }
 
 // 1, of a label to write.
@@ -40,6 +43,7 @@ pub fn label_length_checked(label: Option<Span>, bytes: &[u8]) -> Result<(), Ref
 }
 
 // With a NUL or ill-formed.
+#[tactic(auto, unfolding(crate::specs::Checks::label_bad))]
 fn label_bad(label: Option<Span>, bytes: &[u8]) -> bool
     ensures { result ≡ label_bad (label_part label bytes.now) }
 {
@@ -59,7 +63,9 @@ pub fn label_name_checked(label: Option<Span>, bytes: &[u8]) -> Result<(), Refus
     ensures { Lets result (λ p. label_name_checked p (label_part label bytes.now)) }
 {
     if label_bad(label, bytes) {
-        return Err(Refusal::BadName { which: 3 });
+        return Err(Refusal::BadName {
+            which: CheckedText::Label,
+        });
     }
     Ok(())
 }
@@ -71,10 +77,11 @@ fn lines_checked(table: Option<u8>, lines: &[u32]) -> Result<(), Refusal>
 {
     match table {
         None => Ok(()),
-        Some(_) => checks::count_checked(3, 2, lines.len()),
+        Some(_) => checks::count_checked(NumberList::Lines, 2, lines.len()),
     }
 }
 
+#[tactic(auto, unfolding(crate::specs::Checks::units_bad))]
 fn units_bad(text: Text, units: &[u16], text_length: u16) -> bool
     ensures { result ≡ units_bad (text_part text units.now) text_length }
 {
@@ -84,6 +91,7 @@ fn units_bad(text: Text, units: &[u16], text_length: u16) -> bool
     }
 }
 
+#[tactic(auto, unfolding(crate::specs::Checks::bit_bad))]
 fn bit_bad(table: Option<u8>, line: bool) -> bool
     ensures { result ≡ bit_bad table line }
 {

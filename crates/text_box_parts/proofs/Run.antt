@@ -1,16 +1,17 @@
--- What a read that came through tells, and the text as the code takes it.
+-- What a read that came through tells, and the text as the code reads it.
 use mathlib.Core.Path.{◌≡◌, refl, sym, ap, ◌∙◌}
 use mathlib.Core.List.{List}
 use mathlib.Core.Bool.{Bool, true, false, cond}
-use Prim.Native.Nat.{ℕ, zero, suc, ◌+◌, ◌-◌, ◌*◌, ◌≤◌}
+use Prim.Native.Nat.{ℕ, zero, suc, ◌+◌, ◌*◌, ◌≤◌}
 use native.Mathlib.Nat.{mul-suc, mul-zero}
 use native.Mathlib.Omega.{arith}
 use borrow.Author.Tests.{leb-true}
 use lib.ListN.{length}
 use lib.Dec.{leb}
 use Rattle.core_read.specs.Taken.{moved, advanced, sought, number_taken, Place}
-use Rattle.core_read.specs.declared.cursor.Taken.{Taken}
+use Rattle.core_read.specs.Taken.{Taken}
 use Rattle.core_read.specs.Lists.{numbers_taken, numbers_at}
+use Rattle.core_read.specs.Steps.{Took, Went}
 use Rattle.core_checks.specs.Checks.{unless_refused}
 use Rattle.core_read.specs.declared.error.Refusal.{Refusal}
 use Rattle.core_read.specs.declared.cursor.ByteOrder.{ByteOrder}
@@ -19,8 +20,7 @@ use Rattle.core_read.proofs.Cursors.{pos_advanced, pos_moved}
 use Rattle.core_read.proofs.Runs.{seek_got}
 use Rattle.core_read.proofs.Lists.{number_here, numbers_here, numbers_stay}
 use Rattle.text_box_parts.specs.declared.Text.{Text}
-use Rattle.text_box_parts.specs.declared.Text.TheVariants as text
-use Rattle.text_box_parts.specs.declared.parts.TextTaken.{TextTaken}
+use Rattle.core_read.specs.declared.reader.Reader.{Reader}
 use Rattle.text_box_parts.specs.Parts.{text_of, text_at}
 use Rattle.std.specs.Prelude.{Err, Ok}
 
@@ -83,23 +83,32 @@ numbers_sought order w n s (Ok c) at h =
 numbers_sought order w n s (Err why) at h =
     absurd (no_came (sought_came s (Err why) at (numbers_came order w n s _ h)).0)
 
--- ---- the text as the code takes it
+-- ---- the text as the code reads it: to its place, past its units, and home
 
-module _ (order : ByteOrder) (s : List ℕ) (p : Place) (at n end : ℕ) (q r then : Place) (e : q ≡ sought s p at)
-    (f : r ≡ (numbers_taken order 2 n s q).then) (g : then ≡ sought s r end) where
-  here : (numbers_taken order 2 n s (sought s p at)).then ≡ r
-  here = rw (← e) (sym f)
+module _ (order : ByteOrder) (s : List ℕ) (c there past home : Cursor) (at n end : ℕ) (e : sought s (Ok c) at ≡ Ok there)
+    (f : (numbers_taken order 2 n s (Ok there)).then ≡ Ok past) (g : sought s (Ok past) end ≡ Ok home) where
+  units : (numbers_taken order 2 n s (sought s (Ok c) at)).then ≡ Ok past
+  units = rw e f
 
-  pub text_room : (c : Cursor) → r ≡ Ok c → at + 2 * n ≤ length s
-  text_room c h = (numbers_sought order 2 n s p at (ap came (here ∙ h))).1
+  room : at + 2 * n ≤ length s
+  room = (numbers_sought order 2 n s (Ok c) at (ap came units)).1
 
-  pub text_got : (c : Cursor) → r ≡ Ok c → (t : Text) → t ≡ text_of (numbers_at order 2 n s at)
-      → ◌≡◌ {A = TextTaken} (record { text = t; place = at; then = then }) (text_at order s p at n end)
+  got : (t : Text) → t ≡ text_of (numbers_at order 2 n s at) → text_at order s (Ok c) at n end ≡ record { value = record { text = t; place = at }; then = Ok home }
   unfolding text_at unless_refused
-  text_got c h t k =
-      rw (here, g, h, (numbers_sought order 2 n s p at (ap came (here ∙ h))).0, k)
+  got t k = rw (units, k, (numbers_sought order 2 n s (Ok c) at (ap came units)).0, g)
 
-  pub text_refused : (why : Refusal) → r ≡ Err why
-      → ◌≡◌ {A = TextTaken} (record { text = text.Absent; place = at; then = then }) (text_at order s p at n end)
-  unfolding text_at unless_refused
-  text_refused why h = rw (here, g, h)
+module _ (old there past home : Reader) (at n end : ℕ) (u v w : Unit {0}) (e : Went old there (Ok u) (λ order s p. sought s p at))
+    (f : Went there past (Ok v) (λ order s p. (numbers_taken order 2 n s p).then)) (g : Went past home (Ok w) (λ order s p. sought s p end)) where
+  from_old : (numbers_taken old.source.order 2 n old.source.«data».now (Ok there.cursor)).then ≡ Ok past.cursor
+  from_old = rw e.0 at f.1
+
+  home_again : sought old.source.«data».now (Ok past.cursor) end ≡ Ok home.cursor
+  home_again = rw (f.0, e.0) at g.1
+
+  pub text_room : at + 2 * n ≤ length home.source.«data».now
+  text_room = rw (g.0, f.0, e.0) (room _ _ _ _ _ _ at n end e.1 from_old home_again)
+
+  pub text_got : (t : Text) → t ≡ text_of (numbers_at home.source.order 2 n home.source.«data».now at)
+      → Took old home (Ok (record { text = t; place = at })) (λ order s p. text_at order s p at n end)
+  text_got t k =
+      (g.0 ∙ f.0 ∙ e.0, got _ _ _ _ _ _ at n end e.1 from_old home_again t (rw (g.0, f.0, e.0) at k))

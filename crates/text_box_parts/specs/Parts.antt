@@ -1,7 +1,7 @@
 -- The parts of a text box that offsets point to: text, label and line table.
 use Rattle.std.specs.Prelude.{ℕ, zero, suc, ◌+◌, ◌-◌, ◌*◌, ◌/◌, Bool, not, cond, ◌&&◌, List, [], ◌∷◌, get_or, eqb, None, Some, Option}
 use Rattle.core_read.specs.Taken.{stop_if, sought, u8_taken, as_count, Place}
-use Rattle.core_read.specs.declared.cursor.Taken.{Taken}
+use Rattle.core_read.specs.Taken.{Taken}
 use Rattle.core_read.specs.Taken as core
 use Rattle.core_read.specs.Lists.{numbers_taken, numbers_at}
 use Rattle.core_checks.specs.Checks.{unless_refused}
@@ -11,9 +11,8 @@ use Rattle.utf16.specs.Utf16.{well_formed16}
 use Rattle.text_box_parts.specs.declared.Span.{Span}
 use Rattle.text_box_parts.specs.declared.Text.{Text}
 use Rattle.text_box_parts.specs.declared.Text.TheVariants as text
-use Rattle.text_box_parts.specs.declared.parts.TextTaken.{TextTaken}
-use Rattle.text_box_parts.specs.declared.parts.LabelTaken.{LabelTaken}
-use Rattle.text_box_parts.specs.declared.parts.LinesTaken.{LinesTaken}
+use Rattle.text_box_parts.specs.declared.parts.TextFound.{TextFound}
+use Rattle.text_box_parts.specs.declared.parts.LinesFound.{LinesFound}
 
 -- where a label that was read stands in the strip, if there is one; on a write its bytes are lent
 abbrev pub Label : Type 0
@@ -52,49 +51,48 @@ abbrev pub text_of : List ℕ → Text
 text_of units = cond (well_formed16 units) text.Present text.Absent
 
 -- n units at a place, and back to the end of the fixed bytes
-unfoldable pub text_at : ByteOrder → List ℕ → Place → ℕ → ℕ → ℕ → TextTaken
+unfoldable pub text_at : ByteOrder → List ℕ → Place → ℕ → ℕ → ℕ → Taken TextFound
 text_at order s p at n end =
     let units : Taken (List ℕ) = numbers_taken order 2 n s (sought s p at) in
     record {
-      text = unless_refused units.then text.Absent (text_of units.value);
-      place = at;
+      value = record { text = unless_refused units.then text.Absent (text_of units.value); place = at };
       then = sought s units.then end;
     }
 
 -- 0 means absent
-unfoldable pub text_taken : ByteOrder → List ℕ → Place → ℕ → ℕ → ℕ → TextTaken
+unfoldable pub text_taken : ByteOrder → List ℕ → Place → ℕ → ℕ → ℕ → Taken TextFound
 text_taken order s p body offset long =
     cond (eqb offset 0)
-    (record { text = text.Absent; place = 0; then = p })
+    (record { value = record { text = text.Absent; place = 0 }; then = p })
     (text_at order s p (place_of body offset) (long / 2) (body + 160))
 
 -- ---- the label up to its NUL: its place and length
 
-unfoldable pub label_at : List ℕ → Place → ℕ → ℕ → LabelTaken
+unfoldable pub label_at : List ℕ → Place → ℕ → ℕ → Taken Label
 label_at s p at end =
     let t : Taken ℕ = as_count (core.label_taken s (sought s p at)) in
-    record { label = Some (record { place = at; length = t.value }); then = sought s t.then end }
+    record { value = Some (record { place = at; length = t.value }); then = sought s t.then end }
 
-unfoldable pub label_taken : List ℕ → Place → ℕ → ℕ → LabelTaken
+unfoldable pub label_taken : List ℕ → Place → ℕ → ℕ → Taken Label
 label_taken s p body offset =
     cond (eqb offset 0)
-    (record { label = None; then = p })
+    (record { value = None; then = p })
     (label_at s p (place_of body offset) (body + 160))
 
 -- ---- the line table if flag bit 6 is set: count u8, all offsets, then all widths
 
-unfoldable pub lines_at : ByteOrder → List ℕ → Place → ℕ → ℕ → LinesTaken
+unfoldable pub lines_at : ByteOrder → List ℕ → Place → ℕ → ℕ → Taken LinesFound
 lines_at order s p at end =
     let count : Taken ℕ = u8_taken order s (sought s p at) in
     let offsets : Taken (List ℕ) = numbers_taken order 4 count.value s count.then in
     let widths : Taken (List ℕ) = numbers_taken order 4 count.value s offsets.then in
-    record { line_table = Some count.value; place = at; then = sought s widths.then end }
+    record { value = record { table = Some count.value; place = at }; then = sought s widths.then end }
 
-unfoldable pub lines_taken : ByteOrder → List ℕ → Place → ℕ → Bool → ℕ → LinesTaken
+unfoldable pub lines_taken : ByteOrder → List ℕ → Place → ℕ → Bool → ℕ → Taken LinesFound
 lines_taken order s p body line offset =
     cond (line && not (eqb offset 0))
     (lines_at order s p (place_of body offset) (body + 160))
-    (record { line_table = None; place = 0; then = p })
+    (record { value = record { table = None; place = 0 }; then = p })
 
 -- 6: flag bit 4 set and per-character offset nonzero
 unfoldable pub per_character_checked : Place → Bool → ℕ → Place

@@ -2,12 +2,12 @@
 use mathlib.Core.Path.{◌≡◌, refl, sym, ap, ◌∙◌}
 use mathlib.Core.List.{List}
 use mathlib.Core.Bool.{Bool, true, false, cond, not, ◌&&◌}
-use Prim.Native.Nat.{ℕ, ◌+◌, ◌-◌, ◌*◌, ◌/◌, ◌≤◌}
+use Prim.Native.Nat.{ℕ, ◌+◌, ◌*◌, ◌/◌, ◌≤◌}
 use native.Mathlib.Omega.{arith}
 use lib.ListN.{length}
 use lib.Dec.{eqb}
 use Rattle.core_read.specs.Taken.{moved, advanced, sought, stop_if, number_taken, u8_taken, Place}
-use Rattle.core_read.specs.declared.cursor.Taken.{Taken}
+use Rattle.core_read.specs.Taken.{Taken}
 use Rattle.core_read.specs.Taken as core
 use Rattle.core_read.specs.Lists.{numbers_taken}
 use Rattle.core_read.specs.declared.error.Refusal.{Refusal}
@@ -20,9 +20,8 @@ use Rattle.flags.specs.Fields.{text_flags_of}
 use Rattle.ui2d.specs.Parts.{vector2_taken, color_taken}
 use Rattle.text_box_fixed.specs.Fixed.{head_taken, font_taken, shadow_taken}
 use Rattle.text_box_parts.specs.declared.Text.TheVariants as text
-use Rattle.text_box_parts.specs.declared.parts.TextTaken.{TextTaken}
-use Rattle.text_box_parts.specs.declared.parts.LabelTaken.{LabelTaken}
-use Rattle.text_box_parts.specs.declared.parts.LinesTaken.{LinesTaken}
+use Rattle.text_box_parts.specs.declared.parts.TextFound.{TextFound}
+use Rattle.text_box_parts.specs.declared.parts.LinesFound.{LinesFound}
 use Rattle.text_box_parts.specs.Parts.{place_of, text_at, text_taken, label_at, label_taken, lines_at, lines_taken, per_character_checked, Label}
 use Rattle.text_box_read.specs.TextBox.{Standing}
 use Rattle.text_box_read.specs.TextBox.{assembled, text_box_taken}
@@ -32,19 +31,19 @@ use Rattle.std.specs.Prelude.{Err, None, Ok, Some}
 -- ---- text
 
 text_at_came : (order : ByteOrder) (s : List ℕ) (p : Place) (at n end : ℕ) → came (text_at order s p at n end).then ≡ true
-    → (came p ≡ true) × ((text_at order s p at n end).place + 2 * n ≤ length s)
+    → (came p ≡ true) × ((text_at order s p at n end).value.place + 2 * n ≤ length s)
 unfolding text_at
 text_at_came order s p at n end h =
     let u : came (numbers_taken order 2 n s (sought s p at)).then ≡ true = (sought_came s _ end h).0 in
     ((sought_came s p at (numbers_came order 2 n s _ u)).0, (numbers_sought order 2 n s p at u).1)
 
 -- what a text that was taken from p tells
-abbrev TextOk : List ℕ → Place → ℕ → TextTaken → Type 0
-TextOk s p n t = (came p ≡ true) × (t.text ≡ text.Present → t.place + 2 * n ≤ length s)
+abbrev TextOk : List ℕ → Place → ℕ → Taken TextFound → Type 0
+TextOk s p n t = (came p ≡ true) × (t.value.text ≡ text.Present → t.value.place + 2 * n ≤ length s)
 
-text_either : (s : List ℕ) (p : Place) (n : ℕ) (b : Bool) (t : TextTaken) → (came t.then ≡ true → (came p ≡ true) × (t.place + 2 * n ≤ length s))
-    → came (cond b (record { text = text.Absent; place = 0; then = p }) t).then ≡ true
-    → TextOk s p n (cond b (record { text = text.Absent; place = 0; then = p }) t)
+text_either : (s : List ℕ) (p : Place) (n : ℕ) (b : Bool) (t : Taken TextFound) → (came t.then ≡ true → (came p ≡ true) × (t.value.place + 2 * n ≤ length s))
+    → came (cond b (record { value = record { text = text.Absent; place = 0 }; then = p }) t).then ≡ true
+    → TextOk s p n (cond b (record { value = record { text = text.Absent; place = 0 }; then = p }) t)
 text_either s p n true t f h = (h, λ e. let z : ◌≡◌ {A = ℕ} 0 1 = cc in absurd (omega arith))
 text_either s p n false t f h = ((f h).0, λ e. (f h).1)
 
@@ -65,8 +64,8 @@ label_at_came : (s : List ℕ) (p : Place) (at end : ℕ) → came (label_at s p
 unfolding label_at
 label_at_came s p at end h = (sought_came s p at (label_from s _ (sought_came s _ end h).0)).0
 
-label_either : (p : Place) (b : Bool) (name : Label) (t : LabelTaken) → (came t.then ≡ true → came p ≡ true)
-    → came (cond b (record { label = name; then = p }) t).then ≡ true → came p ≡ true
+label_either : (p : Place) (b : Bool) (name : Label) (t : Taken Label) → (came t.then ≡ true → came p ≡ true)
+    → came (cond b (record { value = name; then = p }) t).then ≡ true → came p ≡ true
 label_either p true name t f h = h
 label_either p false name t f h = f h
 
@@ -94,8 +93,8 @@ table_fits order s c n e h =
     omega (arith, pos_advanced (advanced c 1) (4 * n), pos_advanced c 1)
 
 -- what a line table that was taken from p tells
-abbrev LinesOk : List ℕ → Place → LinesTaken → Type 0
-LinesOk s p t = (came p ≡ true) × ((count : ℕ) → t.line_table ≡ Some count → t.place + 1 + 8 * count ≤ length s)
+abbrev LinesOk : List ℕ → Place → Taken LinesFound → Type 0
+LinesOk s p t = (came p ≡ true) × ((count : ℕ) → t.value.table ≡ Some count → t.value.place + 1 + 8 * count ≤ length s)
 
 lines_at_came : (order : ByteOrder) (s : List ℕ) (p : Place) (at end : ℕ) → came (lines_at order s p at end).then ≡ true
     → LinesOk s p (lines_at order s p at end)
@@ -117,9 +116,9 @@ lines_at_came order s (Ok c) at end h =
           omega (arith, pos_moved c at),
     )
 
-lines_either : (s : List ℕ) (p : Place) (b : Bool) (t : LinesTaken) → (came t.then ≡ true → LinesOk s p t)
-    → came (cond b t (record { line_table = None; place = 0; then = p })).then ≡ true
-    → LinesOk s p (cond b t (record { line_table = None; place = 0; then = p }))
+lines_either : (s : List ℕ) (p : Place) (b : Bool) (t : Taken LinesFound) → (came t.then ≡ true → LinesOk s p t)
+    → came (cond b t (record { value = record { table = None; place = 0 }; then = p })).then ≡ true
+    → LinesOk s p (cond b t (record { value = record { table = None; place = 0 }; then = p }))
 lines_either s p true t f h = f h
 lines_either s p false t f h = (h, λ count e. let z : ◌≡◌ {A = ℕ} 0 1 = cc in absurd (omega arith))
 
@@ -132,7 +131,7 @@ lines_came order s p body line offset h =
 -- ---- THE WHOLE
 
 pub text_box_came : (order : ByteOrder) (s : List ℕ) (p : Place) (body : ℕ) (c : Cursor) → (text_box_taken order s p body).then ≡ Ok c
-    → Standing s (text_box_taken order s p body)
+    → Standing s (text_box_taken order s p body).value
 unfolding text_box_taken assembled per_character_checked
 text_box_came order s p body c e =
     let a = (cleared _ _ _ c e).0 in

@@ -2,6 +2,7 @@
 use Rattle.std.specs.Prelude.{ℕ, ◌+◌, ◌*◌, ◌/◌, ◌≤◌, ◌≡◌, List, length, None, Some}
 use Rattle.core_read.specs.Lists.{numbers_at}
 use Rattle.core_read.specs.declared.cursor.ByteOrder.{ByteOrder}
+use Rattle.core_read.specs.Taken.{Taken}
 use Rattle.flags.specs.Fields.{origin_of, text_flags_of}
 use Rattle.flags.specs.declared.text.FontMeasureKind.{FontMeasureKind}
 use Rattle.flags.specs.declared.text.FontMeasureKind.TheVariants as kind
@@ -15,13 +16,12 @@ use Rattle.text_box_read.specs.declared.FontMeasure.TheVariants as measure
 use Rattle.text_box_parts.specs.declared.Text.{Text}
 use Rattle.text_box_parts.specs.declared.Text.TheVariants as text
 use Rattle.text_box_read.specs.declared.TextBoxPane.{TextBoxPane}
-use Rattle.text_box_read.specs.declared.TextBoxTaken.{TextBoxTaken}
-use Rattle.text_box_fixed.specs.declared.fixed.HeadTaken.{HeadTaken}
-use Rattle.text_box_fixed.specs.declared.fixed.FontTaken.{FontTaken}
-use Rattle.text_box_fixed.specs.declared.fixed.ShadowTaken.{ShadowTaken}
-use Rattle.text_box_parts.specs.declared.parts.TextTaken.{TextTaken}
-use Rattle.text_box_parts.specs.declared.parts.LabelTaken.{LabelTaken}
-use Rattle.text_box_parts.specs.declared.parts.LinesTaken.{LinesTaken}
+use Rattle.text_box_read.specs.declared.TextBoxFound.{TextBoxFound}
+use Rattle.text_box_fixed.specs.declared.fixed.TextHead.{TextHead}
+use Rattle.text_box_fixed.specs.declared.fixed.TextFont.{TextFont}
+use Rattle.text_box_fixed.specs.declared.fixed.TextShadow.{TextShadow}
+use Rattle.text_box_parts.specs.declared.parts.TextFound.{TextFound}
+use Rattle.text_box_parts.specs.declared.parts.LinesFound.{LinesFound}
 use Rattle.text_box_fixed.specs.Fixed.{head_taken, font_taken, shadow_taken}
 use Rattle.text_box_parts.specs.Parts.{text_taken, label_taken, lines_taken, per_character_checked, units_of, lines_of, Label, LineTable}
 use Rattle.core_read.specs.Taken.{Place}
@@ -41,7 +41,7 @@ measure_vector (measure.Size v) = v
 measure_vector (measure.Scale v) = v
 
 -- the record of what was read
-unfoldable pub assembled : HeadTaken → FontTaken → ShadowTaken → Text → Label → LineTable → TextBoxPane
+unfoldable pub assembled : TextHead → TextFont → TextShadow → Text → Label → LineTable → TextBoxPane
 assembled head font shadow found name table = record {
   text_buffer_size = head.text_buffer_size;
   text_length = head.text_length;
@@ -67,31 +67,33 @@ assembled head font shadow found name table = record {
 }
 
 -- A READ, of a body at B, from the place p after the base: the fixed bytes; then, in this order, the text, the label, the line table, and check 6
-unfoldable pub text_box_taken : ByteOrder → List ℕ → Place → ℕ → TextBoxTaken
+unfoldable pub text_box_taken : ByteOrder → List ℕ → Place → ℕ → Taken TextBoxFound
 text_box_taken order s p body =
-    let head : HeadTaken = head_taken order s p in
-    let font : FontTaken = font_taken order s head.then in
-    let shadow : ShadowTaken = shadow_taken order s font.then in
-    let bits : TextPaneFlags = head.word.flags in
-    let found : TextTaken = text_taken order s shadow.then body font.text_offset head.text_length in
-    let name : LabelTaken = label_taken s found.then body font.label_offset in
-    let table : LinesTaken = lines_taken order s name.then body bits.is_line_transform shadow.line_offset in
+    let head : Taken TextHead = head_taken order s p in
+    let font : Taken TextFont = font_taken order s head.then in
+    let shadow : Taken TextShadow = shadow_taken order s font.then in
+    let bits : TextPaneFlags = head.value.word.flags in
+    let found : Taken TextFound = text_taken order s shadow.then body font.value.text_offset head.value.text_length in
+    let name : Taken Label = label_taken s found.then body font.value.label_offset in
+    let table : Taken LinesFound = lines_taken order s name.then body bits.is_line_transform shadow.value.line_offset in
     record {
-      text_box = assembled head font shadow found.text name.label table.line_table;
-      text_place = found.place;
-      lines_place = table.place;
-      then = per_character_checked table.then bits.is_per_character_transform shadow.per_character_offset;
+      value = record {
+        text_box = assembled head.value font.value shadow.value found.value.text name.value table.value.table;
+        text_place = found.value.place;
+        lines_place = table.value.place;
+      };
+      then = per_character_checked table.then bits.is_per_character_transform shadow.value.per_character_offset;
     }
 
 -- the numbers that it gives
-abbrev pub text_box_units : ByteOrder → List ℕ → TextBoxTaken → List ℕ
+abbrev pub text_box_units : ByteOrder → List ℕ → TextBoxFound → List ℕ
 text_box_units order s t = units_of t.text_box.text (numbers_at order 2 (t.text_box.text_length / 2) s t.text_place)
 
-abbrev pub text_box_lines : ByteOrder → List ℕ → TextBoxTaken → List ℕ
+abbrev pub text_box_lines : ByteOrder → List ℕ → TextBoxFound → List ℕ
 text_box_lines order s t = lines_of order s t.text_box.line_table t.lines_place
 
 -- these numbers stand in s
-pub record Standing (s : List ℕ) (t : TextBoxTaken) : Type 0 where
+pub record Standing (s : List ℕ) (t : TextBoxFound) : Type 0 where
   pub units : t.text_box.text ≡ text.Present → t.text_place + 2 * (t.text_box.text_length / 2) ≤ length s
   pub lines : (count : ℕ) → t.text_box.line_table ≡ Some count → t.lines_place + 1 + 8 * count ≤ length s
 

@@ -2,16 +2,18 @@
 #![tactic(auto)]
 
 ghost use Rattle.std.specs.Prelude.{◌≡◌, ◌^◌, ◌≤◌, ◌<◌, length};
+ghost use Rattle.core_read.specs.Steps.{Took};
 ghost use Rattle.core_read.specs.Taken.{over};
 ghost use Rattle.text_box_read.specs.TextBox.{font_measure_of, blank_text_box, assembled, text_box_taken, text_box_units, text_box_lines, Standing};
 ghost use Rattle.text_box_read.specs.Typed.{TypedMeasure, TypedTextBox};
 
-use core_read::cursor::{ByteOrder, Place};
+use core_read::error::Refusal;
+use core_read::reader::{Reader, Source};
 use flags::position::TextPosition;
 use flags::text::{FontMeasureKind, TextAlignment, TextFlagsWord, TextPaneFlags};
 use floats::Binary32;
-use text_box_fixed::fixed;
-use text_box_fixed::fixed::{FontTaken, HeadTaken, ShadowTaken};
+use text_box_fixed::fixed::TextFixed;
+use text_box_parts::parts::{LinesFound, TextFound};
 use text_box_parts::{Span, Text, parts};
 use ui2d::{Color4u8, Vector2f};
 
@@ -47,13 +49,12 @@ pub struct TextBoxPane {
     pub line_table: Option<u8>,
 }
 
-// What a read gives: the text box, where its units and its line table stand, and where the run stands then.
+// What a read gives: the text box, and where its units and its line table stand.
 #[derive(Clone, Copy)]
-pub struct TextBoxTaken {
+pub struct TextBoxFound {
     pub text_box: TextBoxPane,
     pub text_place: usize,
     pub lines_place: usize,
-    pub then: Place,
 }
 
 // ---- reading
@@ -68,51 +69,35 @@ fn font_measure_of(kind: FontMeasureKind, v: Vector2f) -> FontMeasure
 }
 
 // The record of what was read.
+#[tactic(auto, unfolding(crate::specs::TextBox::assembled))]
 fn assemble(
-    head: HeadTaken,
-    font: FontTaken,
-    shadow: ShadowTaken,
+    fixed: TextFixed,
     text: Text,
     label: Option<Span>,
     line_table: Option<u8>,
 ) -> TextBoxPane
-    ensures { result ≡ assembled head font shadow text label line_table }
+    ensures { result ≡ assembled fixed.head fixed.font fixed.shadow text label line_table }
 {
-    let word = head.word;
-    let kind = word.measure;
-    let font_measure = font_measure_of(kind, font.measure);
-    let text_origin = head.text_origin;
-    let text_alignment = head.text_alignment;
-    let text_flags = word.flags;
-    let italic_tilt = head.italic_tilt;
-    let font_top_color = font.top_color;
-    let font_bottom_color = font.bottom_color;
-    let character_space = font.character_space;
-    let line_space = font.line_space;
-    let shadow_translation = shadow.translation;
-    let shadow_size = shadow.size;
-    let shadow_top_color = shadow.top_color;
-    let shadow_bottom_color = shadow.bottom_color;
-    let shadow_italic_tilt = shadow.italic_tilt;
+    let TextFixed { head, font, shadow } = fixed;
     TextBoxPane {
         text_buffer_size: head.text_buffer_size,
         text_length: head.text_length,
         material_index: head.material_index,
         font_index: head.font_index,
-        text_origin,
-        text_alignment,
-        text_flags,
-        italic_tilt,
-        font_top_color,
-        font_bottom_color,
-        font_measure,
-        character_space,
-        line_space,
-        shadow_translation,
-        shadow_size,
-        shadow_top_color,
-        shadow_bottom_color,
-        shadow_italic_tilt,
+        text_origin: head.text_origin,
+        text_alignment: head.text_alignment,
+        text_flags: head.word.flags,
+        italic_tilt: head.italic_tilt,
+        font_top_color: font.top_color,
+        font_bottom_color: font.bottom_color,
+        font_measure: font_measure_of(head.word.measure, font.measure),
+        character_space: font.character_space,
+        line_space: font.line_space,
+        shadow_translation: shadow.translation,
+        shadow_size: shadow.size,
+        shadow_top_color: shadow.top_color,
+        shadow_bottom_color: shadow.bottom_color,
+        shadow_italic_tilt: shadow.italic_tilt,
         text,
         label,
         line_table,
@@ -120,84 +105,67 @@ fn assemble(
 }
 
 // The own fields from B + 76 on, then text, label and line table where their offsets say, then check 6. No list is changed.
-pub fn measure_text_box(order: ByteOrder, data: &[u8], p: Place, body: usize) -> TextBoxTaken
+#[tactic(auto, using(crate::proofs::Stay::text_stays, crate::proofs::Stay::label_stays, crate::proofs::Stay::lines_stay), unfolding(crate::specs::TextBox::text_box_taken, text_box_fixed::specs::Fixed::fixed_taken, text_box_parts::specs::Parts::per_character_checked, core_read::specs::Taken::stop_if))]
+pub fn measure_text_box<'a, 's>(r: &'s mut Reader<'a>, body: usize) -> Result<TextBoxFound, Refusal>
     requires { (8 ≤ body) × (body < 2 ^ 32) }
-    ensures { result ≡ text_box_taken order «data».now p body }
+    ensures { Took r.old r.new result (λ order s p. text_box_taken order s p body) }
 {
-    let taken = fixed::take_fixed(order, data, p);
-    let head = taken.head;
-    let font = taken.font;
-    let shadow = taken.shadow;
-    let p1 = shadow.then;
-    let line = head.word.flags.is_line_transform;
-    let each = head.word.flags.is_per_character_transform;
-    let text_taken = parts::take_text(order, data, p1, body, font.text_offset, head.text_length);
-    let p2 = text_taken.then;
-    let label_taken = parts::take_label(data, p2, body, font.label_offset);
-    let p3 = label_taken.then;
-    let lines_taken = parts::take_lines(order, data, p3, body, line, shadow.line_offset);
-    let p4 = lines_taken.then;
-    let then = parts::per_character_checked(p4, each, shadow.per_character_offset);
-    let text = text_taken.text;
-    let label = label_taken.label;
-    let line_table = lines_taken.line_table;
-    let text_box = assemble(head, font, shadow, text, label, line_table);
-    TextBoxTaken {
-        text_box,
-        text_place: text_taken.place,
-        lines_place: lines_taken.place,
-        then,
-    }
+    let fixed: TextFixed = r.take()?;
+    let flags = fixed.head.word.flags;
+    let text = parts::take_text(r, body, fixed.font.text_offset, fixed.head.text_length)?;
+    let label = parts::take_label(r, body, fixed.font.label_offset)?;
+    let lines = parts::take_lines(r, body, flags.is_line_transform, fixed.shadow.line_offset)?;
+    parts::per_character_checked(
+        flags.is_per_character_transform,
+        fixed.shadow.per_character_offset,
+    )?;
+    Ok(TextBoxFound {
+        text_box: assemble(fixed, text.text, label, lines.table),
+        text_place: text.place,
+        lines_place: lines.place,
+    })
 }
 
 // The units and the lines of a text box whose read came through, at the front of the lent lists.
-pub fn fill_text_box(
-    order: ByteOrder,
-    data: &[u8],
-    t: TextBoxTaken,
-    units: &mut [u16],
-    lines: &mut [u32],
-)
-    requires { Standing «data».now t × (32767 ≤ length units.old) × (510 ≤ length lines.old) }
-    ensures { (units.new ≡ over (text_box_units order «data».now t) units.old) × (lines.new ≡ over (text_box_lines order «data».now t) lines.old) }
+pub fn fill_text_box(source: Source, t: TextBoxFound, units: &mut [u16], lines: &mut [u32])
+    requires { Standing source.«data».now t × (32767 ≤ length units.old) × (510 ≤ length lines.old) }
+    ensures { (units.new ≡ over (text_box_units source.entry.order source.entry.«data».now t) units.old) × (lines.new ≡ over (text_box_lines source.entry.order source.entry.«data».now t) lines.old) }
 {
     let x = t.text_box;
-    let text = x.text;
-    let table = x.line_table;
     let n = (x.text_length / 2) as usize;
-    parts::fill_units(order, data, text, t.text_place, n, units);
-    parts::fill_lines(order, data, table, t.lines_place, lines);
-}
-
-fn no_color() -> Color4u8
-    ensures { result ≡ blank_text_box.font_top_color }
-{
-    Color4u8 {
-        r: 0,
-        g: 0,
-        b: 0,
-        a: 0,
-    }
+    let text = TextFound {
+        text: x.text,
+        place: t.text_place,
+    };
+    let table = LinesFound {
+        table: x.line_table,
+        place: t.lines_place,
+    };
+    parts::fill_units(source, text, n, units);
+    parts::fill_lines(source, table, lines);
 }
 
 // The text box beside a refusal.
+#[tactic(auto, unfolding(crate::specs::TextBox::blank_text_box))]
 pub fn blank_text_box() -> TextBoxPane
     ensures { result ≡ blank_text_box }
 {
     let zero = Binary32 { bits: 0 };
     let vector = Vector2f { x: zero, y: zero };
-    let color = no_color();
-    let word = TextFlagsWord::from(0);
-    let text_flags = word.flags;
-    let text_origin = TextPosition::from(0);
+    let color = Color4u8 {
+        r: 0,
+        g: 0,
+        b: 0,
+        a: 0,
+    };
     TextBoxPane {
         text_buffer_size: 0,
         text_length: 0,
         material_index: 0,
         font_index: 0,
-        text_origin,
+        text_origin: TextPosition::from(0),
         text_alignment: TextAlignment::Synchronous,
-        text_flags,
+        text_flags: TextFlagsWord::from(0).flags,
         italic_tilt: zero,
         font_top_color: color,
         font_bottom_color: color,
@@ -212,6 +180,14 @@ pub fn blank_text_box() -> TextBoxPane
         text: Text::Absent,
         label: None,
         line_table: None,
+    }
+}
+
+impl Default for TextBoxPane {
+    ghost is_default = { λ x. x ≡ blank_text_box };
+
+    fn default() -> TextBoxPane {
+        blank_text_box()
     }
 }
 

@@ -4,9 +4,10 @@ use mathlib.Core.List.{List}
 use Prim.Native.Nat.{ℕ, ◌+◌, ◌≤◌}
 use native.Mathlib.Omega.{arith}
 use Rattle.std.specs.Prelude.{None, Some, MatchOption}
-use Rattle.core_read.specs.Bytes.{Put, padding}
-use Rattle.core_read.specs.declared.cursor.ByteOrder.{ByteOrder}
-use Rattle.core_write.proofs.Puts.{◌then◌, put_as}
+use Rattle.core_read.specs.Bytes.{padding}
+use Rattle.core_write.specs.Puts.{Puts}
+use Rattle.core_write.specs.declared.writer.Writer.{Writer}
+use Rattle.core_write.proofs.Chain.{◌then◌, puts_as}
 use Rattle.text_box_read.specs.declared.TextBoxPane.{TextBoxPane}
 use Rattle.text_box_write.specs.declared.write.Layout.{Layout}
 use Rattle.text_box_write.specs.Fixed.{encode_fixed}
@@ -53,21 +54,21 @@ module _ (body p n : ℕ) (found name table : Part) (l : 8 ≤ body) (e : p ≡ 
         omega arith
 
 -- the four puts are the one
-parts_put : {o o₁ o₂ o₃ o₄ : List ℕ} {q r t u : ℕ} (order : ByteOrder) (x : TextBoxPane) (body p : ℕ) (found name table : Part) (plan : Layout)
-    → 8 ≤ body → p ≡ body + 76 → plan ≡ parts_layout body found name table
-    → Put o p 84 (encode_fixed order x plan.text plan.label plan.lines) q o₁
-    → Put o₁ q (text_width found) (encode_text order found) r o₂
-    → Put o₂ r (label_width r name) (encode_label r name) t o₃
-    → Put o₃ t (line_width t table) (encode_lines order t table) u o₄
-    → Put o p (parts_length body found name table) (parts_encoded order body x found name table) u o₄
-parts_put {q = q} {r = r} {t = t} order x body p found name table plan l e f a b c d =
-    let g : r ≡ p + 84 + text_width found = omega (arith, a.place, b.place) in
-    let k = at_label body p 0 found name table l e r g in
-    let m = at_lines body p 0 found name table l e r t g c.place in
-    put_as refl (ap (λ (i : Layout). encode_fixed order x i.text i.label i.lines) f) a
-    then b
-    then put_as (ap (λ (i : ℕ). label_width i name) k) (ap (λ (i : ℕ). encode_label i name) k) c
-    then put_as (ap (λ (i : ℕ). line_width i table) m) (ap (λ (i : ℕ). encode_lines order i table) m) d
+parts_puts : {a b c d e : Writer} (x : TextBoxPane) (body : ℕ) (found name table : Part) (plan : Layout)
+    → 8 ≤ body → a.place ≡ body + 76 → plan ≡ parts_layout body found name table
+    → Puts a b 84 (λ order. encode_fixed order x plan.text plan.label plan.lines)
+    → Puts b c (text_width found) (λ order. encode_text order found)
+    → Puts c d (label_width c.place name) (λ order. encode_label c.place name)
+    → Puts d e (line_width d.place table) (λ order. encode_lines order d.place table)
+    → Puts a e (parts_length body found name table) (λ order. parts_encoded order body x found name table)
+parts_puts {a} {c = c} {d = d} x body found name table plan l at f fixed_put text_put label_put lines_put =
+    let g : c.place ≡ a.place + 84 + text_width found = omega (arith, fixed_put.put.place, text_put.put.place) in
+    let k = at_label body a.place 0 found name table l at c.place g in
+    let m = at_lines body a.place 0 found name table l at c.place d.place g label_put.put.place in
+    puts_as refl (λ order. ap (λ (i : Layout). encode_fixed order x i.text i.label i.lines) f) fixed_put
+    then text_put
+    then puts_as (ap (λ (i : ℕ). label_width i name) k) (λ order. ap (λ (i : ℕ). encode_label i name) k) label_put
+    then puts_as (ap (λ (i : ℕ). line_width i table) m) (λ order. ap (λ (i : ℕ). encode_lines order i table) m) lines_put
 
 -- ---- the same of a text box
 
@@ -91,13 +92,13 @@ module _ (body p n : ℕ) (x : TextBoxPane) (units lines label : List ℕ) (l : 
   need_lines q r t m k f g h =
       rw k (room_lines body p n (text_part x.text units) (label_part x.label label) (line_part x.line_table lines) l e room q r t f g h)
 
-pub whole_put : {o o₁ o₂ o₃ o₄ : List ℕ} {q r t u : ℕ} (order : ByteOrder) (x : TextBoxPane) (body p : ℕ) (units lines label : List ℕ) (plan : Layout)
-    → 8 ≤ body → p ≡ body + 76 → plan ≡ layout_of body x units lines label
-    → Put o p 84 (encode_fixed order x plan.text plan.label plan.lines) q o₁
-    → Put o₁ q (text_width (text_part x.text units)) (encode_text order (text_part x.text units)) r o₂
-    → Put o₂ r (label_width r (label_part x.label label)) (encode_label r (label_part x.label label)) t o₃
-    → Put o₃ t (line_width t (line_part x.line_table lines)) (encode_lines order t (line_part x.line_table lines)) u o₄
-    → Put o p (text_box_length body x units lines label) (encode_text_box order body x units lines label) u o₄
+pub whole_puts : {a b c d e : Writer} (x : TextBoxPane) (body : ℕ) (units lines label : List ℕ) (plan : Layout)
+    → 8 ≤ body → a.place ≡ body + 76 → plan ≡ layout_of body x units lines label
+    → Puts a b 84 (λ order. encode_fixed order x plan.text plan.label plan.lines)
+    → Puts b c (text_width (text_part x.text units)) (λ order. encode_text order (text_part x.text units))
+    → Puts c d (label_width c.place (label_part x.label label)) (λ order. encode_label c.place (label_part x.label label))
+    → Puts d e (line_width d.place (line_part x.line_table lines)) (λ order. encode_lines order d.place (line_part x.line_table lines))
+    → Puts a e (text_box_length body x units lines label) (λ order. encode_text_box order body x units lines label)
 unfolding layout_of text_box_length encode_text_box
-whole_put order x body p units lines label plan l e f a b c d =
-    parts_put order x body p (text_part x.text units) (label_part x.label label) (line_part x.line_table lines) plan l e f a b c d
+whole_puts x body units lines label plan l at f fixed_put text_put label_put lines_put =
+    parts_puts x body (text_part x.text units) (label_part x.label label) (line_part x.line_table lines) plan l at f fixed_put text_put label_put lines_put

@@ -1,11 +1,11 @@
 // The 84 fixed bytes of a text box after the base, written in four chunks.
 ghost use Rattle.std.specs.Prelude.{◌≡◌};
-ghost use Rattle.core_read.specs.Bytes.{Room, Put};
+ghost use Rattle.core_write.specs.Puts.{HasRoom, Puts};
 ghost use Rattle.text_box_read.specs.TextBox.{measure_kind, measure_vector};
 ghost use Rattle.text_box_write.specs.Fixed.{encode_indices, encode_style, encode_font, encode_shadow, encode_fixed};
 
-use core_read::cursor::ByteOrder;
-use core_write::writer;
+use crate::write::Layout;
+use core_write::writer::Writer;
 use flags::text::{FontMeasureKind, TextFlagsWord};
 use text_box_read::{FontMeasure, TextBoxPane};
 use ui2d::Vector2f;
@@ -28,87 +28,63 @@ fn measure_vector(m: FontMeasure) -> Vector2f
     }
 }
 
-fn put_indices(order: ByteOrder, out: &mut [u8], p: usize, x: TextBoxPane) -> usize
-    requires { Room out.old p 8 }
-    ensures { Put out.old p 8 (encode_indices order x) result out.new }
+fn put_indices<'a, 's>(w: &'s mut Writer<'a>, x: TextBoxPane)
+    requires { HasRoom w.old 8 }
+    ensures { Puts w.old w.new 8 (λ order. encode_indices order x) }
 {
-    let q = writer::put_u16(order, out, p, x.text_buffer_size);
-    let q = writer::put_u16(order, out, q, x.text_length);
-    let q = writer::put_u16(order, out, q, x.material_index);
-    writer::put_u16(order, out, q, x.font_index)
+    w.put_number(x.text_buffer_size);
+    w.put_number(x.text_length);
+    w.put_number(x.material_index);
+    w.put_number(x.font_index);
 }
 
-fn put_style(order: ByteOrder, out: &mut [u8], p: usize, x: TextBoxPane) -> usize
-    requires { Room out.old p 8 }
-    ensures { Put out.old p 8 (encode_style order x) result out.new }
+fn put_style<'a, 's>(w: &'s mut Writer<'a>, x: TextBoxPane)
+    requires { HasRoom w.old 8 }
+    ensures { Puts w.old w.new 8 (λ order. encode_style order x) }
 {
-    let m = x.font_measure;
-    let kind = measure_kind(m);
-    let o = x.text_origin;
-    let a = x.text_alignment;
     let word = TextFlagsWord {
         flags: x.text_flags,
-        measure: kind,
+        measure: measure_kind(x.font_measure),
     };
-    let origin = u8::from(o);
-    let alignment = u8::from(a);
-    let raw = u16::from(word);
-    let q = writer::put_u8(order, out, p, origin);
-    let q = writer::put_u8(order, out, q, alignment);
-    let q = writer::put_u16(order, out, q, raw);
-    writer::put_u32(order, out, q, x.italic_tilt.bits)
+    w.put_number(u8::from(x.text_origin));
+    w.put_number(u8::from(x.text_alignment));
+    w.put_number(u16::from(word));
+    w.put_number(x.italic_tilt.bits);
 }
 
-fn put_font(
-    order: ByteOrder,
-    out: &mut [u8],
-    p: usize,
-    x: TextBoxPane,
-    text: u32,
-    label: u32,
-) -> usize
-    requires { Room out.old p 32 }
-    ensures { Put out.old p 32 (encode_font order x text label) result out.new }
+fn put_font<'a, 's>(w: &'s mut Writer<'a>, x: TextBoxPane, plan: Layout)
+    requires { HasRoom w.old 32 }
+    ensures { Puts w.old w.new 32 (λ order. encode_font order x plan.text plan.label) }
 {
-    let m = x.font_measure;
-    let floats = measure_vector(m);
-    let q = writer::put_u32(order, out, p, text);
-    let q = ui2d::put_color(order, out, q, x.font_top_color);
-    let q = ui2d::put_color(order, out, q, x.font_bottom_color);
-    let q = ui2d::put_vector2(order, out, q, floats);
-    let q = writer::put_u32(order, out, q, x.character_space.bits);
-    let q = writer::put_u32(order, out, q, x.line_space.bits);
-    writer::put_u32(order, out, q, label)
+    w.put_number(plan.text);
+    ui2d::put_color(w, x.font_top_color);
+    ui2d::put_color(w, x.font_bottom_color);
+    ui2d::put_vector2(w, measure_vector(x.font_measure));
+    w.put_number(x.character_space.bits);
+    w.put_number(x.line_space.bits);
+    w.put_number(plan.label);
 }
 
-fn put_shadow(order: ByteOrder, out: &mut [u8], p: usize, x: TextBoxPane, lines: u32) -> usize
-    requires { Room out.old p 36 }
-    ensures { Put out.old p 36 (encode_shadow order x lines) result out.new }
+fn put_shadow<'a, 's>(w: &'s mut Writer<'a>, x: TextBoxPane, plan: Layout)
+    requires { HasRoom w.old 36 }
+    ensures { Puts w.old w.new 36 (λ order. encode_shadow order x plan.lines) }
 {
-    let q = ui2d::put_vector2(order, out, p, x.shadow_translation);
-    let q = ui2d::put_vector2(order, out, q, x.shadow_size);
-    let q = ui2d::put_color(order, out, q, x.shadow_top_color);
-    let q = ui2d::put_color(order, out, q, x.shadow_bottom_color);
-    let q = writer::put_u32(order, out, q, x.shadow_italic_tilt.bits);
-    let q = writer::put_u32(order, out, q, lines);
-    writer::put_u32(order, out, q, 0)
+    ui2d::put_vector2(w, x.shadow_translation);
+    ui2d::put_vector2(w, x.shadow_size);
+    ui2d::put_color(w, x.shadow_top_color);
+    ui2d::put_color(w, x.shadow_bottom_color);
+    w.put_number(x.shadow_italic_tilt.bits);
+    w.put_number(plan.lines);
+    w.put_number(0u32);
 }
 
 // The fixed bytes, with the three offsets.
-pub fn put_fixed(
-    order: ByteOrder,
-    out: &mut [u8],
-    p: usize,
-    x: TextBoxPane,
-    text: u32,
-    label: u32,
-    lines: u32,
-) -> usize
-    requires { Room out.old p 84 }
-    ensures { Put out.old p 84 (encode_fixed order x text label lines) result out.new }
+pub fn put_fixed<'a, 's>(w: &'s mut Writer<'a>, x: TextBoxPane, plan: Layout)
+    requires { HasRoom w.old 84 }
+    ensures { Puts w.old w.new 84 (λ order. encode_fixed order x plan.text plan.label plan.lines) }
 {
-    let q = put_indices(order, out, p, x);
-    let q = put_style(order, out, q, x);
-    let q = put_font(order, out, q, x, text, label);
-    put_shadow(order, out, q, x, lines)
+    put_indices(w, x);
+    put_style(w, x);
+    put_font(w, x, plan);
+    put_shadow(w, x, plan);
 }

@@ -4,5 +4,4 @@ pub mod QuadBits
 pub mod QuadRuns
 pub mod Chunks
 pub mod Here
-pub mod Materials
 pub mod Examples

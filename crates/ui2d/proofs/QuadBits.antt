@@ -1,24 +1,16 @@
 -- Quads in a list of bits: what is stored is loaded, and a quad is its eight numbers.
 use mathlib.Core.Path.{◌≡◌, refl, sym, ap, ◌∙◌}
-use Prim.Native.Nat.{ℕ, suc, ◌+◌, ◌-◌, ◌≤◌, ◌<◌}
+use Prim.Native.Nat.{ℕ, suc, ◌+◌, ◌≤◌, ◌<◌}
 use native.Mathlib.Omega.{arith}
 use native.Mathlib.Nat.{add_assoc}
 use native.Mathlib.Numerals.{add-one}
-use mathlib.Core.List.{List, ◌∷◌, append_assoc}
-use borrow.Rule.Slice.PartMut.{put_mid}
+use mathlib.Core.List.{List, ◌∷◌}
 use lib.ListN.{length, take, drop, get_or}
-use lib.Seq.{drop-cons, drop-drop, take_all}
+use lib.Seq.{drop-cons, take_all}
 use Rattle.core_read.specs.Bytes.{splice}
-use Rattle.core_write.proofs.Puts.{length_splice, splice_cut, splice_read}
+use Rattle.core_write.proofs.Puts.{length_splice, splice_read}
 use Rattle.ui2d.specs.Quads.{vector_bits, quad_bits, vector_at, quad_at}
 use Rattle.ui2d.specs.declared.Quad.{Quad}
-
--- numbers laid over those of a list, as a copy into a part of it leaves them
-pub laid_over : (l : List ℕ) (at n : ℕ) (e : List ℕ) → length e ≡ n → at + n ≤ length l → put_mid at (at + n - at) l e ≡ splice l at e
-laid_over l at n e w h =
-    let k : at + n - at ≡ n = omega arith in
-    let rest : drop n (drop at l) ≡ drop (at + length e) l = drop-drop n at l ∙ ap (λ (j : ℕ). drop (at + j) l) (sym w) in
-    rw (k, rest) (sym (splice_cut l at e (omega (arith, w, h)) ∙ append_assoc (take at l) e (drop (at + length e) l)))
 
 step : (n : ℕ) (l : List ℕ) (at : ℕ) → at < length l → take (suc n) (drop at l) ≡ get_or l at 0 ∷ take n (drop (at + 1) l)
 step n l at h = rw (add-one, drop-cons l at 0)

@@ -1,17 +1,20 @@
 // Vectors, colours and quads: at a place of lent bytes, and quads in a lent list of bits.
 #![tactic(auto)]
 
-pub mod fixed;
 pub mod material;
 pub mod quads;
 
-ghost use Rattle.std.specs.Prelude.{◌≡◌, ◌+◌, ◌≤◌, length};
-ghost use Rattle.core_read.specs.Bytes.{Room, Put, splice};
+ghost use Rattle.std.specs.Prelude.{◌≡◌, ◌+◌, ◌≤◌, ◌<◌, length};
+ghost use Rattle.core_read.specs.Bytes.{Room, splice};
+ghost use Rattle.core_read.specs.Steps.{Took, Stands};
+ghost use Rattle.core_write.specs.Puts.{HasRoom, Puts};
 ghost use Rattle.ui2d.specs.Parts.{vector2_taken, vector3_taken, color_taken, colors_taken, encode_vector2, encode_vector3, encode_color, encode_colors, encode_quad};
 ghost use Rattle.ui2d.specs.Quads.{vector_at, quad_at, quad_bits};
 ghost use Rattle.ui2d.specs.Typed.{TypedVector2, TypedVector3, TypedColor, TypedColors};
 
-use core_read::cursor::{ByteOrder, Place, Taken};
+use core_read::error::Refusal;
+use core_read::reader::{Field, Reader, Source};
+use core_write::writer::Writer;
 use floats::Binary32;
 
 #[derive(Clone, Copy)]
@@ -44,159 +47,158 @@ pub struct Quad {
     pub bottom_right: Vector2f,
 }
 
-// Of the corners: top left, top right, bottom left, bottom right.
 // ---- read
 
-pub fn take_vector2(order: ByteOrder, data: &[u8], p: Place) -> Taken<Vector2f>
-    ensures { result ≡ vector2_taken order «data».now p }
-{
-    let x = core_read::cursor::take_u32(order, data, p);
-    let p1 = x.then;
-    let y = core_read::cursor::take_u32(order, data, p1);
-    let then = y.then;
-    Taken {
-        value: Vector2f {
-            x: Binary32 { bits: x.value },
-            y: Binary32 { bits: y.value },
-        },
-        then,
+impl Field for Vector2f {
+    ghost taken = { vector2_taken };
+
+    const WIDTH: usize = 8;
+
+    ghost WIDTH = { 8 };
+
+    #[tactic(auto, unfolding(crate::specs::Parts::vector2_taken, core_read::specs::Taken::number_taken))]
+    fn fields<'a, 's>(r: &'s mut Reader<'a>) -> Result<Vector2f, Refusal> {
+        let x = Binary32 { bits: r.number()? };
+        let y = Binary32 { bits: r.number()? };
+        Ok(Vector2f { x, y })
+    }
+
+    fn at<'a>(source: Source<'a>, at: usize) -> Vector2f {
+        let x = Binary32 {
+            bits: source.number_at(at),
+        };
+        let y = Binary32 {
+            bits: source.number_at(at + 4),
+        };
+        Vector2f { x, y }
     }
 }
 
-pub fn take_vector3(order: ByteOrder, data: &[u8], p: Place) -> Taken<Vector3f>
-    ensures { result ≡ vector3_taken order «data».now p }
-{
-    let x = core_read::cursor::take_u32(order, data, p);
-    let p1 = x.then;
-    let y = core_read::cursor::take_u32(order, data, p1);
-    let p2 = y.then;
-    let z = core_read::cursor::take_u32(order, data, p2);
-    let then = z.then;
-    Taken {
-        value: Vector3f {
-            x: Binary32 { bits: x.value },
-            y: Binary32 { bits: y.value },
-            z: Binary32 { bits: z.value },
-        },
-        then,
+impl Field for Vector3f {
+    ghost taken = { vector3_taken };
+
+    const WIDTH: usize = 12;
+
+    ghost WIDTH = { 12 };
+
+    #[tactic(auto, unfolding(crate::specs::Parts::vector3_taken, core_read::specs::Taken::number_taken))]
+    fn fields<'a, 's>(r: &'s mut Reader<'a>) -> Result<Vector3f, Refusal> {
+        let x = Binary32 { bits: r.number()? };
+        let y = Binary32 { bits: r.number()? };
+        let z = Binary32 { bits: r.number()? };
+        Ok(Vector3f { x, y, z })
+    }
+
+    fn at<'a>(source: Source<'a>, at: usize) -> Vector3f {
+        let x = Binary32 {
+            bits: source.number_at(at),
+        };
+        let y = Binary32 {
+            bits: source.number_at(at + 4),
+        };
+        let z = Binary32 {
+            bits: source.number_at(at + 8),
+        };
+        Vector3f { x, y, z }
     }
 }
 
-pub fn take_color(order: ByteOrder, data: &[u8], p: Place) -> Taken<Color4u8>
-    ensures { result ≡ color_taken order «data».now p }
-{
-    let r = core_read::cursor::take_u8(order, data, p);
-    let p1 = r.then;
-    let g = core_read::cursor::take_u8(order, data, p1);
-    let p2 = g.then;
-    let b = core_read::cursor::take_u8(order, data, p2);
-    let p3 = b.then;
-    let a = core_read::cursor::take_u8(order, data, p3);
-    let then = a.then;
-    Taken {
-        value: Color4u8 {
-            r: r.value,
-            g: g.value,
-            b: b.value,
-            a: a.value,
-        },
-        then,
+impl Field for Color4u8 {
+    ghost taken = { color_taken };
+
+    const WIDTH: usize = 4;
+
+    ghost WIDTH = { 4 };
+
+    #[tactic(auto, unfolding(crate::specs::Parts::color_taken, core_read::specs::Taken::number_taken))]
+    fn fields<'a, 's>(rr: &'s mut Reader<'a>) -> Result<Color4u8, Refusal> {
+        let r = rr.number()?;
+        let g = rr.number()?;
+        let b = rr.number()?;
+        let a = rr.number()?;
+        Ok(Color4u8 { r, g, b, a })
     }
-}
 
-// Corner by corner.
-fn take_corners(order: ByteOrder, data: &[u8], p: Place) -> Taken<[Color4u8; 4]>
-    ensures { result ≡ colors_taken order «data».now p }
-{
-    let tl = take_color(order, data, p);
-    let p1 = tl.then;
-    let tr = take_color(order, data, p1);
-    let p2 = tr.then;
-    let bl = take_color(order, data, p2);
-    let p3 = bl.then;
-    let br = take_color(order, data, p3);
-    let then = br.then;
-    let top_left = tl.value;
-    let top_right = tr.value;
-    let bottom_left = bl.value;
-    let bottom_right = br.value;
-    let value = [top_left, top_right, bottom_left, bottom_right];
-    Taken { value, then }
-}
-
-// One test where all 16 bytes are there.
-pub fn take_colors(order: ByteOrder, data: &[u8], p: Place) -> Taken<[Color4u8; 4]>
-    ensures { result ≡ colors_taken order «data».now p }
-{
-    match p {
-        Ok(c) => {
-            let at = c.pos;
-            if at < data.len() {
-                if 16 <= data.len() - at {
-                    let value = fixed::colors_at(order, data, at);
-                    return Taken {
-                        value,
-                        then: Ok(c.advanced(16)),
-                    };
-                }
-            }
-            take_corners(order, data, Ok(c))
+    fn at<'a>(source: Source<'a>, at: usize) -> Color4u8 {
+        Color4u8 {
+            r: source.number_at(at),
+            g: source.number_at(at + 1),
+            b: source.number_at(at + 2),
+            a: source.number_at(at + 3),
         }
-        Err(why) => take_corners(order, data, Err(why)),
     }
+}
+
+// The colours of the corners: top left, top right, bottom left, bottom right. They are an array, which is no type of this crate, so that it can make no Field of them.
+#[tactic(auto, unfolding(crate::specs::Parts::colors_taken, crate::specs::Parts::color_taken, core_read::specs::Taken::number_taken))]
+pub fn read_colors<'a, 's>(r: &'s mut Reader<'a>) -> Result<[Color4u8; 4], Refusal>
+    ensures { Took r.old r.new result colors_taken }
+{
+    let top_left = r.take()?;
+    let top_right = r.take()?;
+    let bottom_left = r.take()?;
+    let bottom_right = r.take()?;
+    Ok([top_left, top_right, bottom_left, bottom_right])
+}
+
+pub fn colors_at<'a>(source: Source<'a>, at: usize) -> [Color4u8; 4]
+    requires { (at < length source.«data».now) × Room source.«data».now at 16 }
+    ensures { Stands (colors_taken source.entry.order source.entry.«data».now) at 16 result }
+{
+    let top_left = Color4u8::at(source, at);
+    let top_right = Color4u8::at(source, at + 4);
+    let bottom_left = Color4u8::at(source, at + 8);
+    let bottom_right = Color4u8::at(source, at + 12);
+    [top_left, top_right, bottom_left, bottom_right]
 }
 
 // ---- written
 
-pub fn put_vector2(order: ByteOrder, out: &mut [u8], p: usize, v: Vector2f) -> usize
-    requires { Room out.old p 8 }
-    ensures { Put out.old p 8 (encode_vector2 order v) result out.new }
+pub fn put_vector2<'a, 's>(w: &'s mut Writer<'a>, v: Vector2f)
+    requires { HasRoom w.old 8 }
+    ensures { Puts w.old w.new 8 (λ order. encode_vector2 order v) }
 {
-    let q = core_write::writer::put_u32(order, out, p, v.x.bits);
-    core_write::writer::put_u32(order, out, q, v.y.bits)
+    w.put_number(v.x.bits);
+    w.put_number(v.y.bits);
 }
 
-pub fn put_vector3(order: ByteOrder, out: &mut [u8], p: usize, v: Vector3f) -> usize
-    requires { Room out.old p 12 }
-    ensures { Put out.old p 12 (encode_vector3 order v) result out.new }
+pub fn put_vector3<'a, 's>(w: &'s mut Writer<'a>, v: Vector3f)
+    requires { HasRoom w.old 12 }
+    ensures { Puts w.old w.new 12 (λ order. encode_vector3 order v) }
 {
-    let q = core_write::writer::put_u32(order, out, p, v.x.bits);
-    let q = core_write::writer::put_u32(order, out, q, v.y.bits);
-    core_write::writer::put_u32(order, out, q, v.z.bits)
+    w.put_number(v.x.bits);
+    w.put_number(v.y.bits);
+    w.put_number(v.z.bits);
 }
 
-pub fn put_color(order: ByteOrder, out: &mut [u8], p: usize, v: Color4u8) -> usize
-    requires { Room out.old p 4 }
-    ensures { Put out.old p 4 (encode_color order v) result out.new }
+pub fn put_color<'a, 's>(w: &'s mut Writer<'a>, v: Color4u8)
+    requires { HasRoom w.old 4 }
+    ensures { Puts w.old w.new 4 (λ order. encode_color order v) }
 {
-    let q = core_write::writer::put_u8(order, out, p, v.r);
-    let q = core_write::writer::put_u8(order, out, q, v.g);
-    let q = core_write::writer::put_u8(order, out, q, v.b);
-    core_write::writer::put_u8(order, out, q, v.a)
+    w.put_number(v.r);
+    w.put_number(v.g);
+    w.put_number(v.b);
+    w.put_number(v.a);
 }
 
-pub fn put_colors(order: ByteOrder, out: &mut [u8], p: usize, v: [Color4u8; 4]) -> usize
-    requires { Room out.old p 16 }
-    ensures { Put out.old p 16 (encode_colors order v) result out.new }
+pub fn put_colors<'a, 's>(w: &'s mut Writer<'a>, v: [Color4u8; 4])
+    requires { HasRoom w.old 16 }
+    ensures { Puts w.old w.new 16 (λ order. encode_colors order v) }
 {
-    let top_left = v[0];
-    let top_right = v[1];
-    let bottom_left = v[2];
-    let bottom_right = v[3];
-    let q = put_color(order, out, p, top_left);
-    let q = put_color(order, out, q, top_right);
-    let q = put_color(order, out, q, bottom_left);
-    put_color(order, out, q, bottom_right)
+    put_color(w, v[0]);
+    put_color(w, v[1]);
+    put_color(w, v[2]);
+    put_color(w, v[3]);
 }
 
-pub fn put_quad(order: ByteOrder, out: &mut [u8], p: usize, v: Quad) -> usize
-    requires { Room out.old p 32 }
-    ensures { Put out.old p 32 (encode_quad order v) result out.new }
+pub fn put_quad<'a, 's>(w: &'s mut Writer<'a>, v: Quad)
+    requires { HasRoom w.old 32 }
+    ensures { Puts w.old w.new 32 (λ order. encode_quad order v) }
 {
-    let q = put_vector2(order, out, p, v.top_left);
-    let q = put_vector2(order, out, q, v.top_right);
-    let q = put_vector2(order, out, q, v.bottom_left);
-    put_vector2(order, out, q, v.bottom_right)
+    put_vector2(w, v.top_left);
+    put_vector2(w, v.top_right);
+    put_vector2(w, v.bottom_left);
+    put_vector2(w, v.bottom_right);
 }
 
 // ---- quads in a lent list of bits, each at eight numbers; `at` counts numbers
@@ -232,17 +234,14 @@ pub fn store_quad(list: &mut [u32], at: usize, q: Quad)
     requires { at + 8 ≤ length list.old }
     ensures { list.new ≡ splice list.old at (quad_bits q) }
 {
-    let numbers = [
-        q.top_left.x.bits,
-        q.top_left.y.bits,
-        q.top_right.x.bits,
-        q.top_right.y.bits,
-        q.bottom_left.x.bits,
-        q.bottom_left.y.bits,
-        q.bottom_right.x.bits,
-        q.bottom_right.y.bits,
-    ];
-    list[at..at + 8].copy_from_slice(&numbers);
+    list[at] = q.top_left.x.bits;
+    list[at + 1] = q.top_left.y.bits;
+    list[at + 2] = q.top_right.x.bits;
+    list[at + 3] = q.top_right.y.bits;
+    list[at + 4] = q.bottom_left.x.bits;
+    list[at + 5] = q.bottom_left.y.bits;
+    list[at + 6] = q.bottom_right.x.bits;
+    list[at + 7] = q.bottom_right.y.bits;
 }
 
 // ---- what the types guarantee

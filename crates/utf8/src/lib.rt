@@ -5,7 +5,7 @@ ghost use Rattle.std.specs.Prelude.{◌≡◌, ◌<◌, length, drop};
 ghost use Rattle.std.specs.Option.{option_copied};
 ghost use Rattle.utf8.specs.Utf8.{table, row_of, sequence, ascii_run, is_ascii, well_formed};
 
-// A row of the table: how many bytes, and the least and the greatest byte at each place.
+// A row of the table as the Standard prints it, in four columns: how many bytes, and the least and the greatest byte at each place. A column that a row lacks is 0 here.
 #[derive(Clone, Copy)]
 pub struct Row {
     pub count: usize,
@@ -80,6 +80,7 @@ fn sequence(s: &[u8]) -> Option<usize>
     if s.len() < count {
         return None;
     }
+    // By the place, which the bytes and both lists of the row share.
     for j in 1..count {
         let b = s[j];
         let fits = (row.low[j] <= b) & (b <= row.high[j]);
@@ -102,6 +103,7 @@ pub fn well_formed(s: &[u8]) -> bool
     ensures { result ≡ well_formed s.now }
 {
     let mut left = after_ascii(s);
+    // No `for`: each turn goes on by the length of the sequence that it found.
     while !left.is_empty() {
         let Some(n) = sequence(left) else {
             return false;

@@ -27,12 +27,12 @@ unfolding step_at
 step_made order s p l r n e f = ap (step_of r) f ∙ ap (λ (x : SectionRead). step_of x (place_after p x.answer)) e
 
 -- and so is a section read by a walk that has moved on
-pub next_made : (order : ByteOrder) (w v : Walk) (l : Lists) (r : SectionRead) → r ≡ read_section order w.«data».now w.place l → v ≡ moved_on order w l
-    → step_of r v.place ≡ step_at order w.«data».now w.place l
+pub next_made : (w v : Walk) (l : Lists) (r : SectionRead) → r ≡ read_section w.source.order w.source.«data».now w.place l → v ≡ moved_on w l
+    → step_of r v.place ≡ step_at w.source.order w.source.«data».now w.place l
 unfolding moved_on
-next_made order w v l r e f =
+next_made w v l r e f =
     let place : v.place ≡ place_after w.place r.answer = ap (λ (x : Walk). x.place) f ∙ ap (λ (x : SectionRead). place_after w.place x.answer) (sym e) in
-    step_made order w.«data».now w.place l r v.place e place
+    step_made w.source.order w.source.«data».now w.place l r v.place e place
 
 -- ---- a walk of n bytes at p stays, or moves on by a section within them
 
@@ -60,12 +60,12 @@ pub step_less : (order : ByteOrder) (s : List ℕ) (p : ℕ) (l : Lists) (r : St
 step_less order s p l r e h = less (length s) p r.place h (subst (λ (x : Step). Moved (length s) p x.place) (sym e) (step_moved order s p l))
 
 -- the same of a loop over `Walk::next`, which keeps its walk: it is moved on to the step's place, over the same strip
-pub moved_place : (order : ByteOrder) (w : Walk) (l : Lists) → (moved_on order w l).place ≡ (step_at order w.«data».now w.place l).place
+pub moved_place : (w : Walk) (l : Lists) → (moved_on w l).place ≡ (step_at w.source.order w.source.«data».now w.place l).place
 unfolding moved_on step_at
-moved_place order w l = refl
+moved_place w l = refl
 
-pub next_less : (order : ByteOrder) (w v : Walk) (l : Lists) → v ≡ moved_on order w l → w.place < v.place
-    → length w.«data».now - v.place < length w.«data».now - w.place
-next_less order w v l e h =
-    let k : v.place ≡ (step_at order w.«data».now w.place l).place = ap (λ (x : Walk). x.place) e ∙ moved_place order w l in
-    less (length w.«data».now) w.place v.place h (rw k (step_moved order w.«data».now w.place l))
+pub next_less : (w v : Walk) (l : Lists) → v ≡ moved_on w l → w.place < v.place
+    → length w.source.«data».now - v.place < length w.source.«data».now - w.place
+next_less w v l e h =
+    let k : v.place ≡ (step_at w.source.order w.source.«data».now w.place l).place = ap (λ (x : Walk). x.place) e ∙ moved_place w l in
+    less (length w.source.«data».now) w.place v.place h (rw k (step_moved w.source.order w.source.«data».now w.place l))

@@ -23,5 +23,5 @@ step_at order s p l =
     record { answer = r.answer; «record» = r.«record»; place = place_after p r.answer }
 
 -- THE WALK MOVED ON by a step: the same bytes, and the place after the section read at its place
-unfoldable pub moved_on : ByteOrder → Walk → Lists → Walk
-moved_on order w l = record { «data» = w.«data»; place = place_after w.place (read_section order w.«data».now w.place l).answer }
+unfoldable pub moved_on : Walk → Lists → Walk
+moved_on w l = record { source = w.source; place = place_after w.place (read_section w.source.order w.source.«data».now w.place l).answer }

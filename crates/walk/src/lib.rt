@@ -1,24 +1,25 @@
-// The walk over a strip keeps the strip's bytes with its next place.
+// The walk over a strip keeps the strip's bytes, in their order, with its next place.
 #![tactic(auto)]
 
 ghost use Rattle.std.specs.Prelude.{◌≡◌};
 ghost use Rattle.strip_header.specs.Header.{section_by_number};
-ghost use Rattle.strip_records.specs.Whole.{lists};
+ghost use Rattle.strip_records.specs.Held.{held, Filled};
 ghost use Rattle.strip_read.specs.Read.{read_section, lists_after};
 ghost use Rattle.walk.specs.Walk.{place_after, step_at, moved_on};
 
-use core_read::cursor::ByteOrder;
 use core_read::error::Refusal;
+use core_read::reader::Source;
+use strip::lists::Lists;
 use strip::read::{Section, SectionRead};
 use strip::record::Record;
 
 #[derive(Clone, Copy)]
 pub struct Walk<'a> {
-    pub data: &'a [u8],
+    pub source: Source<'a>,
     pub place: usize,
 }
 
-// What the section read answers, and the place that the walk hands on.
+// What the section read gives, and the place that the walk hands on. The answer stands beside the record, as document 01 has it.
 #[derive(Clone, Copy)]
 pub struct Step {
     pub answer: Result<Section, Refusal>,
@@ -40,45 +41,35 @@ fn place_after(place: usize, answer: Result<Section, Refusal>) -> usize
 
 impl<'a> Walk<'a> {
     // A walk over a strip, from a place.
-    pub fn over(data: &'a [u8], place: usize) -> Walk<'a>
-        ensures { (result.«data» ≡ «data».entry) × (result.place ≡ place) }
+    pub fn over(source: Source<'a>, place: usize) -> Walk<'a>
+        ensures { (result.source ≡ source.entry) × (result.place ≡ place) }
     {
-        Walk { data, place }
+        Walk { source, place }
     }
 
     // The section at the walk's place. The walk moves on to the next; it stays at the end, and where the read is refused.
-    // No `Iterator` has this `next`: it is lent four lists anew at each step, and says which section it met where it stays.
-    pub fn next<'s, 'b, 'c, 'd, 'e>(
-        &'s mut self,
-        order: ByteOrder,
-        quads: &'b mut [u32],
-        units: &'c mut [u16],
-        lines: &'d mut [u32],
-        frames: &'e mut [u16],
-    ) -> SectionRead
-        ensures { (result ≡ read_section order self.old.«data».now self.old.place (lists quads.old units.old lines.old frames.old)) × (lists quads.new units.new lines.new frames.new ≡ lists_after order self.old.«data».now self.old.place (lists quads.old units.old lines.old frames.old)) × (self.new ≡ moved_on order self.old (lists quads.old units.old lines.old frames.old)) × (section_by_number result.answer ≡ section_by_number (read_section order self.old.«data».now self.old.place (lists quads.old units.old lines.old frames.old)).answer) }
+    // No `Iterator` has this `next`: it is lent the lists anew at each step, and says which section it met where it stays.
+    pub fn next<'s, 'l, 't>(&'s mut self, lists: &'t mut Lists<'l>) -> SectionRead
+        ensures value { result ≡ read_section self.old.source.order self.old.source.«data».now self.old.place (held lists.old) }
+        ensures lists_after { Filled lists.old lists.new (lists_after self.old.source.order self.old.source.«data».now self.old.place (held lists.old)) }
+        ensures moved { self.new ≡ moved_on self.old (held lists.old) }
+        ensures answer_value { section_by_number result.answer ≡ section_by_number (read_section self.old.source.order self.old.source.«data».now self.old.place (held lists.old)).answer }
     {
         let place = self.place;
-        let read = strip::read::read_section(order, self.data, place, quads, units, lines, frames);
+        let read = strip::read::read_section(self.source, place, lists);
         self.place = place_after(place, read.answer);
         read
     }
 }
 
 // The step of a walk for a caller that holds the strip and the place itself.
-pub fn section_after(
-    order: ByteOrder,
-    data: &[u8],
-    place: usize,
-    quads: &mut [u32],
-    units: &mut [u16],
-    lines: &mut [u32],
-    frames: &mut [u16],
-) -> Step
-    ensures { (result ≡ step_at order «data».now place (lists quads.old units.old lines.old frames.old)) × (lists quads.new units.new lines.new frames.new ≡ lists_after order «data».now place (lists quads.old units.old lines.old frames.old)) × (section_by_number result.answer ≡ section_by_number (step_at order «data».now place (lists quads.old units.old lines.old frames.old)).answer) }
+pub fn section_after<'a, 'l, 't>(source: Source<'a>, place: usize, lists: &'t mut Lists<'l>) -> Step
+    ensures value { result ≡ step_at source.entry.order source.entry.«data».now place (held lists.old) }
+    ensures lists_after { Filled lists.old lists.new (lists_after source.entry.order source.entry.«data».now place (held lists.old)) }
+    ensures answer_value { section_by_number result.answer ≡ section_by_number (step_at source.entry.order source.entry.«data».now place (held lists.old)).answer }
 {
-    let mut walk = Walk::over(data, place);
-    let read = walk.next(order, quads, units, lines, frames);
+    let mut walk = Walk::over(source, place);
+    let read = walk.next(lists);
     Step {
         answer: read.answer,
         record: read.record,

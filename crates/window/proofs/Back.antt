@@ -1,4 +1,5 @@
 -- A window that a write lets through is read back, anywhere in a buffer.
+use Rattle.core_read.specs.Taken.{cursor_of}
 use mathlib.Core.Path.{◌≡◌, refl, ap, ◌∙◌, subst}
 use Prim.Native.Nat.{ℕ, zero, suc, ◌+◌, ◌-◌, ◌*◌, ◌/◌, ◌%◌, ◌^◌, ◌≤◌, ◌<◌}
 use native.Mathlib.Nat.{add-zero, add_assoc}
@@ -7,7 +8,7 @@ use mathlib.Core.List.{List}
 use lib.ListN.{length, replicate, length-replicate}
 use Rattle.core_read.specs.Bytes.{bytes_of_all}
 use Rattle.core_read.specs.Taken.{advanced, moved, sought, Place}
-use Rattle.core_read.specs.declared.cursor.Taken.{Taken}
+use Rattle.core_read.specs.Taken.{Taken}
 use Rattle.core_read.specs.Lists.{numbers_taken}
 use Rattle.core_read.specs.declared.cursor.ByteOrder.{ByteOrder}
 use Rattle.core_read.specs.declared.cursor.Cursor.{Cursor}
@@ -20,9 +21,9 @@ use Rattle.window_head.specs.Head.{head_taken}
 use Rattle.window_write.specs.Write.{GoodWindow, content_padding, table_offset, window_length, encode_head, encode_content, frame_offsets, encode_frames, encode_window}
 use Rattle.window.specs.Same.{SameWindow}
 use Rattle.window_read.specs.Typed.{TypedWindow}
+use Rattle.window_read.specs.declared.WindowContent.{WindowContent}
 use Rattle.window_read.specs.declared.WindowPane.{WindowPane}
-use Rattle.window_read.specs.declared.read.ContentTaken.{ContentTaken}
-use Rattle.window_read.specs.declared.read.WindowTaken.{WindowTaken}
+use Rattle.window_read.specs.declared.read.WindowFound.{WindowFound}
 use Rattle.window.proofs.Lengths.{length_offsets, length_head, length_content}
 use Rattle.window.proofs.Fields.{read_back_content, frames_fit, head_of, numbers_at_lem, head_at, content_at, frames_at}
 use Rattle.ui2d.proofs.QuadRuns.{count_fit, eight}
@@ -66,16 +67,13 @@ read_same x quads frames = record {
 -- ---- the whole
 
 -- the steps of a read, as far as they are known
-window_run : (order : ByteOrder) (s : List ℕ) (p : Place) (body : ℕ) (head : Taken WindowHead) (content : ContentTaken) (quads table frames : Taken (List ℕ)) (toContent to_table end : Place)
+window_run : (order : ByteOrder) (s : List ℕ) (p : Place) (body : ℕ) (head : Taken WindowHead) (content : Taken WindowContent) (quads table frames : Taken (List ℕ)) (toContent to_table end : Place)
     → head_taken order s p ≡ head → sought s head.then (body - 8 + head.value.content_offset) ≡ toContent → content_taken order s toContent ≡ content
     → numbers_taken order 4 (8 * content.value.quad_count) s content.then ≡ quads → sought s quads.then (body - 8 + head.value.table_offset) ≡ to_table
     → numbers_taken order 4 head.value.frame_count s to_table ≡ table → frames_taken order s (body - 8) table.value table.then ≡ frames
     → sought s frames.then (body + 104) ≡ end
     → window_taken order s p body ≡ record {
-      window = window_of head.value content.value;
-      quads = content.then;
-      table = to_table;
-      frames = table.then;
+      value = record { window = window_of head.value content.value; quads = cursor_of content.then; table = cursor_of to_table };
       then = end;
     }
 unfolding window_taken
@@ -151,7 +149,7 @@ module _ {s : List ℕ} (c : Cursor) (order : ByteOrder) (body : ℕ) (x : Windo
   at_parts : Parts s c order body x quads frames
   at_parts = parts c order body x quads frames t a
 
-  content_here : ◌≡◌ {A = ContentTaken} (content_taken order s (Ok (advanced c 28))) (record { value = read_back_content x.content quads; then = Ok (advanced c 48) })
+  content_here : ◌≡◌ {A = Taken WindowContent} (content_taken order s (Ok (advanced c 28))) (record { value = read_back_content x.content quads; then = Ok (advanced c 48) })
       × Holds s (c.pos + 48) (bytes_of_all order 4 quads)
   content_here =
       content_at c order x.content quads (record { colors = t.colors; material = t.material }) (count_fit (length quads) g.most_quads) at_parts.content
@@ -184,11 +182,8 @@ module _ {s : List ℕ} (c : Cursor) (order : ByteOrder) (body : ℕ) (x : Windo
       frames_at d order (4 * m) (body - 8) (table_offset body (length quads) + 4 * m) frames (omega (arith, e, here, low)) ff g.flips g.whole_frames h
 
   -- THE WINDOW
-  pub window_back : ◌≡◌ {A = WindowTaken} (window_taken order s (Ok c) body) (record {
-    window = read_back_window x quads frames;
-    quads = Ok (advanced c 48);
-    table = Ok (at_table c body (length quads));
-    frames = Ok (advanced (at_table c body (length quads)) (4 * (length frames / 2)));
+  pub window_back : ◌≡◌ {A = Taken WindowFound} (window_taken order s (Ok c) body) (record {
+    value = record { window = read_back_window x quads frames; quads = advanced c 48; table = at_table c body (length quads) };
     then = Ok (after_window c body (length quads) (length frames));
   })
   unfolding window_of read_back_window read_back_content table_offset
@@ -216,17 +211,17 @@ module _ {s : List ℕ} (c : Cursor) (order : ByteOrder) (body : ℕ) (x : Windo
       (seek_to s (advanced d (4 * m + 4 * m)) (body + 104) (body + 104) refl (omega (arith, here, end)))
 
   -- the numbers of its lists
-  pub quads_back : window_quads order s (window_taken order s (Ok c) body) ≡ quads
+  pub quads_back : window_quads order s (window_taken order s (Ok c) body).value ≡ quads
   unfolding window_quads read_back_window read_back_content
-  quads_back = ap (window_quads order s) window_back ∙ ap (λ (r : Taken (List ℕ)). r.value) quads_here
+  quads_back = ap (λ (w : Taken WindowFound). window_quads order s w.value) window_back ∙ ap (λ (r : Taken (List ℕ)). r.value) quads_here
 
-  pub frames_back : window_frames order s (window_taken order s (Ok c) body) body ≡ frames
+  pub frames_back : window_frames order s (window_taken order s (Ok c) body).value body ≡ frames
   unfolding window_frames read_back_window
   frames_back =
-      ap (λ (w : WindowTaken). window_frames order s w body) window_back
-      ∙ ap (λ (r : Taken (List ℕ)). (frames_taken order s (body - 8) r.value (Ok (advanced (at_table c body (length quads)) (4 * (length frames / 2))))).value) table_here
+      ap (λ (w : Taken WindowFound). window_frames order s w.value body) window_back
+      ∙ ap (λ (r : Taken (List ℕ)). (frames_taken order s (body - 8) r.value r.then).value) table_here
       ∙ ap (λ (r : Taken (List ℕ)). r.value) frames_here
 
   -- what was read is equal to what was written
-  pub same_back : SameWindow (window_taken order s (Ok c) body).window (window_quads order s (window_taken order s (Ok c) body)) (window_frames order s (window_taken order s (Ok c) body) body) x quads frames
+  pub same_back : SameWindow (window_taken order s (Ok c) body).value.window (window_quads order s (window_taken order s (Ok c) body).value) (window_frames order s (window_taken order s (Ok c) body).value body) x quads frames
   same_back = rw (quads_back, frames_back, window_back) (read_same x quads frames)

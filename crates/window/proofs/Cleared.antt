@@ -26,8 +26,8 @@ pub window_cleared : (p : Place) (quads frames : List ℕ) (c : Cursor) → wind
 unfolding window_checked
 window_cleared p quads frames c e =
     let (h₃, g) = flips_cleared _ 0 frames c e in
-    let (h₂, e₂, f) = count_cleared _ 4 2 (length frames) c h₃ in
-    let (h₁, e₁, q) = count_cleared p 1 8 (length quads) c h₂ in
+    let (h₂, e₂, f) = count_cleared _ _ 2 (length frames) c h₃ in
+    let (h₁, e₁, q) = count_cleared p _ 8 (length quads) c h₂ in
     (h₁, record { most_quads = q; whole_quads = e₁; most_frames = f; whole_frames = e₂; flips = g })
 
 pub window_let : (quads frames : List ℕ) → ((c : Cursor) → window_checked (Ok c) quads frames ≡ Ok c) → GoodWindow quads frames

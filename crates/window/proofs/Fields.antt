@@ -11,7 +11,7 @@ use mir.Syntax.{w16}
 use mir.Val.{SFits}
 use Rattle.core_read.specs.Bytes.{bytes_of_all, bits_of}
 use Rattle.core_read.specs.Taken.{advanced}
-use Rattle.core_read.specs.declared.cursor.Taken.{Taken}
+use Rattle.core_read.specs.Taken.{Taken}
 use Rattle.core_read.specs.Lists.{numbers_taken}
 use Rattle.core_read.specs.declared.cursor.ByteOrder.{ByteOrder}
 use Rattle.core_read.specs.declared.cursor.Cursor.{Cursor}
@@ -32,8 +32,7 @@ use Rattle.window_read.specs.Typed.{TypedWindow}
 use Rattle.window_read.specs.declared.WindowContent.{WindowContent}
 use Rattle.window_read.specs.declared.WindowPane.{WindowPane}
 use Rattle.window_head.specs.declared.WindowHead.{WindowHead}
-use Rattle.window_read.specs.declared.read.ContentTaken.{ContentTaken}
-use Rattle.window_read.specs.declared.read.FrameTaken.{FrameTaken}
+use Rattle.window_read.specs.declared.WindowFrame.{WindowFrame}
 use Rattle.window.proofs.Lengths.{length_sides, length_borders, length_frame}
 use Rattle.std.specs.Prelude.{Ok}
 use Rattle.window_head.specs.declared.Sides.{Sides}
@@ -126,7 +125,7 @@ module _ {s : List ℕ} (c : Cursor) (order : ByteOrder) where
   -- the content, at 28, without its quads
   pub content_at : (x : WindowContent) (quads : List ℕ) → TypedContent x → length quads / 8 < 256 ^ 1
       → Holds s (c.pos + 28) (encode_content order x quads)
-      → ◌≡◌ {A = ContentTaken} (content_taken order s (Ok (advanced c 28))) (record { value = read_back_content x quads; then = Ok (advanced c 48) })
+      → ◌≡◌ {A = Taken WindowContent} (content_taken order s (Ok (advanced c 28))) (record { value = read_back_content x quads; then = Ok (advanced c 48) })
       × Holds s (c.pos + 48) (bytes_of_all order 4 quads)
   unfolding content_taken encode_content read_back_content
   content_at x quads t hn a =
@@ -144,7 +143,7 @@ module _ {s : List ℕ} (c : Cursor) (order : ByteOrder) where
       )
 
   frame_at : (k material flip : ℕ) → material < 256 ^ 2 → flip ≤ 5 → Holds s (c.pos + k) (encode_frame order material flip)
-      → ◌≡◌ {A = FrameTaken} (frame_taken order s (Ok (advanced c k)))
+      → ◌≡◌ {A = Taken WindowFrame} (frame_taken order s (Ok (advanced c k)))
       (record { value = record { material_index = material; texture_flip_mode = flip_of flip }; then = Ok (advanced c (k + 4)) })
   unfolding frame_taken encode_frame
   frame_at k material flip hm hf a =

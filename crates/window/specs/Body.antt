@@ -1,53 +1,47 @@
 -- The body calls of a window pane.
-use Rattle.std.specs.Prelude.{◌≡◌, ℕ, ◌+◌, List, ◌++◌, length, Err, None}
+use Rattle.std.specs.Prelude.{ℕ, ◌+◌, List, ◌++◌, length, None}
 use Rattle.core_read.specs.Bytes.{splice}
 use Rattle.core_read.specs.Taken.{over, Place}
 use Rattle.core_checks.specs.Checks.{body_start, list_checked, end_checked, reach_checked, unless_refused, written_of, Extent, Written}
-use Rattle.core_read.specs.declared.error.Refusal.{Refusal}
 use Rattle.core_read.specs.declared.cursor.ByteOrder.{ByteOrder}
 use Rattle.pane_read.specs.Pane.{pane_taken, blank_pane, encode_pane}
 use Rattle.pane_checks.specs.Checks.{texts_checked, names_checked, reserve_checked}
 use Rattle.pane_read.specs.declared.Pane.{Pane}
-use Rattle.pane_read.specs.declared.PaneTaken.{PaneTaken}
+use Rattle.core_read.specs.Taken.{Taken}
 use Rattle.window_read.specs.Window.{window_taken, window_quads, window_frames, blank_window}
 use Rattle.window_write.specs.Write.{window_checked, window_length, encode_window}
 use Rattle.window_read.specs.declared.WindowPane.{WindowPane}
-use Rattle.window_read.specs.declared.read.WindowTaken.{WindowTaken}
-use Rattle.window.specs.declared.body.WindowMeasured.{WindowMeasured}
-use Rattle.window.specs.declared.body.WindowParsed.{WindowParsed}
-
--- what a refused read gives
-pub record Blank (why : Refusal) (r : WindowParsed) : Type 0 where
-  pub answer : r.answer ≡ Err why
-  pub base : r.base ≡ blank_pane
-  pub window : r.window ≡ blank_window
+use Rattle.window_read.specs.declared.read.WindowFound.{WindowFound}
+use Rattle.pane_read.specs.declared.parsed.Measured.{Measured}
+use Rattle.pane_read.specs.declared.parsed.Parsed.{Parsed}
+use Rattle.core_read.specs.declared.error.NumberList.TheVariants.{Quads, Frames}
 
 -- ---- reading
 
 -- what is measured from a place p of the run, of a body at B: the base, the own fields and parts, then 7 and, in a section, 19
-unfoldable pub window_measured : ByteOrder → List ℕ → Place → ℕ → Extent → WindowMeasured
+unfoldable pub window_measured : ByteOrder → List ℕ → Place → ℕ → Extent → Taken (Measured WindowFound)
 window_measured order s p body extent =
-    let b : PaneTaken = pane_taken order s p in
-    let x : WindowTaken = window_taken order s b.then body in
-    record { base = b.pane; own = x; then = reach_checked (texts_checked x.then b.pane body) extent }
+    let b : Taken Pane = pane_taken order s p in
+    let x : Taken WindowFound = window_taken order s b.then body in
+    record { value = record { base = b.value; own = x.value }; then = reach_checked (texts_checked x.then b.value body) extent }
 
 -- what a read gives of it, blank where the run was refused
-unfoldable pub window_given : WindowMeasured → WindowParsed
+unfoldable pub window_given : Taken (Measured WindowFound) → Parsed WindowPane
 window_given m =
     record {
       answer = m.then;
-      base = unless_refused m.then blank_pane m.base;
-      window = unless_refused m.then blank_window m.own.window;
+      base = unless_refused m.then blank_pane m.value.base;
+      own = unless_refused m.then blank_window m.value.own.window;
     }
 
 -- the lent lists after it: the numbers over the front of each, or as it was where the run was refused
-unfoldable pub quads_filled : ByteOrder → List ℕ → WindowMeasured → List ℕ → List ℕ
-quads_filled order s m old = unless_refused m.then old (over (window_quads order s m.own) old)
+unfoldable pub quads_filled : ByteOrder → List ℕ → Taken (Measured WindowFound) → List ℕ → List ℕ
+quads_filled order s m old = unless_refused m.then old (over (window_quads order s m.value.own) old)
 
-unfoldable pub frames_filled : ByteOrder → List ℕ → WindowMeasured → ℕ → List ℕ → List ℕ
-frames_filled order s m body old = unless_refused m.then old (over (window_frames order s m.own body) old)
+unfoldable pub frames_filled : ByteOrder → List ℕ → Taken (Measured WindowFound) → ℕ → List ℕ → List ℕ
+frames_filled order s m body old = unless_refused m.then old (over (window_frames order s m.value.own body) old)
 
-unfoldable pub window_read : ByteOrder → List ℕ → Place → ℕ → Extent → WindowParsed
+unfoldable pub window_read : ByteOrder → List ℕ → Place → ℕ → Extent → Parsed WindowPane
 window_read order s p body extent = window_given (window_measured order s p body extent)
 
 unfoldable pub read_quads : ByteOrder → List ℕ → Place → ℕ → Extent → List ℕ → List ℕ
@@ -58,10 +52,10 @@ read_frames order s p body extent old = frames_filled order s (window_measured o
 
 -- 1, 2 and 3, of lent lists
 unfoldable pub read_start : ℕ → ℕ → List ℕ → List ℕ → Place
-read_start n body quads frames = list_checked (list_checked (body_start n body) 1 2040 (length quads)) 4 510 (length frames)
+read_start n body quads frames = list_checked (list_checked (body_start n body) Quads 2040 (length quads)) Frames 510 (length frames)
 
 -- THE BODY READ at B of s: 1, 2, 3, and then so, in all of the buffer; and the lent lists after it
-unfoldable pub window_parsed : ByteOrder → List ℕ → ℕ → List ℕ → List ℕ → WindowParsed
+unfoldable pub window_parsed : ByteOrder → List ℕ → ℕ → List ℕ → List ℕ → Parsed WindowPane
 window_parsed order s body quads frames = window_read order s (read_start (length s) body quads frames) body None
 
 unfoldable pub parsed_quads : ByteOrder → List ℕ → ℕ → List ℕ → List ℕ → List ℕ

@@ -1,155 +1,123 @@
 // The body calls of a window pane: any bytes are read or refused, any pane is written or refused.
-ghost use Rattle.std.specs.Prelude.{◌≡◌, ◌*◌, ◌^◌, ◌≤◌, ◌<◌, length};
-ghost use Rattle.core_read.specs.Bytes.{Room, Put};
+ghost use Rattle.std.specs.Prelude.{◌≡◌, ◌^◌, ◌≤◌, ◌<◌, length, Ok};
 ghost use Rattle.core_checks.specs.Answered.{Clears};
 ghost use Rattle.core_checks.specs.Checks.{parsed_by_number, written_by_number};
+ghost use Rattle.core_read.specs.Steps.{Took};
+ghost use Rattle.core_read.specs.Taken.{over};
+ghost use Rattle.core_write.specs.Puts.{HasRoom, Puts};
 ghost use Rattle.pane_read.specs.Pane.{Sound};
 ghost use Rattle.window_write.specs.Write.{GoodWindow};
-ghost use Rattle.window_read.specs.Window.{Ahead};
-ghost use Rattle.window.specs.Body.{Blank, window_measured, window_given, quads_filled, frames_filled, window_read, read_quads, read_frames, window_parsed, parsed_quads, parsed_frames, window_write_checked, body_length, encode_body, window_written, window_output};
+ghost use Rattle.window_read.specs.Window.{Passed, window_quads, window_frames};
+ghost use Rattle.window.specs.Body.{window_measured, window_read, read_quads, read_frames, read_start, window_parsed, parsed_quads, parsed_frames, window_write_checked, body_length, encode_body, window_written, window_output};
 
 use core_checks::checks;
-use core_read::cursor::{ByteOrder, Cursor, Place};
-use core_read::error::Refusal;
+use core_read::cursor::{ByteOrder, Place};
+use core_read::error::{NumberList, Refusal};
+use core_read::reader::{Reader, Source};
+use core_write::writer::Writer;
 use pane_checks::checks::{names_checked, reserve_checked, texts_checked};
 use pane_read::Pane;
+use pane_read::parsed::{Measured, Parsed};
 use window_read::WindowPane;
-use window_read::read::{WindowTaken, fill_window, measure_window};
+use window_read::read::{WindowFound, fill_window, measure_window};
 use window_write::write::{put_window, window_checked, window_length};
 
-// A pane that was measured, where its quads and frames stand among what it has of its own, and where the run stands then.
-#[derive(Clone, Copy)]
-pub struct WindowMeasured {
-    pub base: Pane,
-    pub own: WindowTaken,
-    pub then: Place,
-}
-
-// What a body read gives: its answer, and the pane, blank where it was refused.
-#[derive(Clone, Copy)]
-pub struct WindowParsed {
-    pub answer: Result<Cursor, Refusal>,
-    pub base: Pane,
-    pub window: WindowPane,
-}
-
-fn refused(why: Refusal) -> WindowParsed
-    ensures { Blank why result }
-{
-    WindowParsed {
-        answer: Err(why),
-        base: pane_read::blank_pane(),
-        window: window_read::blank_window(),
-    }
-}
-
 // All reads, check 7 and, in a section, check 19.
-pub fn measure(
-    order: ByteOrder,
-    data: &[u8],
-    p: Place,
+#[tactic(auto, using(core_checks::proofs::Checked::reach_stays, window_read::proofs::Run::window_stays), unfolding(crate::specs::Body::window_measured, pane_checks::specs::Checks::texts_checked, core_read::specs::Taken::stop_if))]
+pub fn measure<'a, 's>(
+    r: &'s mut Reader<'a>,
     place: usize,
     extent: Option<usize>,
-) -> WindowMeasured
+) -> Result<Measured<WindowFound>, Refusal>
     requires { (8 ≤ place) × (place < 2 ^ 32) }
-    ensures { result ≡ window_measured order «data».now p place extent }
+    ensures { Took r.old r.new result (λ order s p. window_measured order s p place extent) }
 {
-    let taken = pane_read::take_pane(order, data, p);
-    let base = taken.pane;
-    let p1 = taken.then;
-    let own = measure_window(order, data, p1, place);
-    let p2 = own.then;
-    let p3 = texts_checked(p2, base, place);
-    let then = checks::reach_checked(p3, extent);
-    WindowMeasured { base, own, then }
+    let base = r.take::<Pane>()?;
+    let own = measure_window(r, place)?;
+    texts_checked(base, place)?;
+    checks::reach_checked(r.cursor, extent)?;
+    Ok(Measured { base, own })
 }
 
-// The quads and frames of a pane that was measured and not refused.
-pub fn fill(
-    order: ByteOrder,
-    data: &[u8],
-    m: WindowMeasured,
+// The quads and frames of a pane that was measured.
+pub fn fill<'a>(
+    source: Source<'a>,
+    m: Measured<WindowFound>,
     place: usize,
     quads: &mut [u32],
     frames: &mut [u16],
 )
     requires le_place { (8 ≤ place) × (place < 2 ^ 32) }
-    requires ahead { (c : Cursor) → m.then ≡ Ok c → Ahead «data».now m.own.quads (4 * (8 * m.own.window.content.quad_count)) }
+    requires passed { Passed source.order source.«data».now m.own place }
     requires in_bounds { (2040 ≤ length quads.old) × (510 ≤ length frames.old) }
-    ensures quads_after { quads.new ≡ quads_filled order «data».now m quads.old }
-    ensures frames_after { frames.new ≡ frames_filled order «data».now m place frames.old }
+    ensures quads_after { quads.new ≡ over (window_quads source.entry.order source.entry.«data».now m.own) quads.old }
+    ensures frames_after { frames.new ≡ over (window_frames source.entry.order source.entry.«data».now m.own place) frames.old }
 {
-    let then = m.then;
-    match then {
-        Ok(_) => {
-            let own = m.own;
-            fill_window(order, data, own, place, quads, frames);
-        }
-        Err(_) => {}
+    fill_window(source, m.own, place, quads, frames);
+}
+
+// The read in a buffer or in a section, its lists only passed.
+#[tactic(auto, unfolding(crate::specs::Body::window_read, crate::specs::Body::window_given, core_checks::specs::Checks::unless_refused))]
+pub fn measured<'a>(mut r: Reader<'a>, place: usize, extent: Option<usize>) -> Parsed<WindowPane>
+    requires { (8 ≤ place) × (place < 2 ^ 32) }
+    ensures { result ≡ window_read r.entry.source.order r.entry.source.«data».now (Ok r.entry.cursor) place extent }
+{
+    match measure(&mut r, place, extent) {
+        Ok(m) => Parsed::accepted(r.cursor, m.base, m.own.window),
+        Err(why) => Parsed::refused(why),
     }
 }
 
-// What a read gives of what was measured.
-pub fn given(m: WindowMeasured) -> WindowParsed
-    ensures { result ≡ window_given m }
-{
-    let base = m.base;
-    let own = m.own;
-    let window = own.window;
-    let then = m.then;
-    match then {
-        Ok(c) => {
-            let answer = Ok(c);
-            WindowParsed {
-                answer,
-                base,
-                window,
-            }
-        }
-        Err(why) => refused(why),
-    }
-}
-
-// The read in a buffer or in a section: measured, filled and given.
-pub fn read(
-    order: ByteOrder,
-    data: &[u8],
-    p: Place,
+// The same, with the quads and the frames at the front of the lists where nothing was refused.
+#[tactic(auto, unfolding(crate::specs::Body::window_read, crate::specs::Body::read_quads, crate::specs::Body::read_frames, crate::specs::Body::quads_filled, crate::specs::Body::frames_filled, crate::specs::Body::window_given, core_checks::specs::Checks::unless_refused))]
+pub fn read<'a>(
+    mut r: Reader<'a>,
     place: usize,
     extent: Option<usize>,
     quads: &mut [u32],
     frames: &mut [u16],
-) -> WindowParsed
+) -> Parsed<WindowPane>
     requires le_place { (8 ≤ place) × (place < 2 ^ 32) }
     requires in_bounds { (2040 ≤ length quads.old) × (510 ≤ length frames.old) }
-    ensures value { result ≡ window_read order «data».now p place extent }
-    ensures quads_after { quads.new ≡ read_quads order «data».now p place extent quads.old }
-    ensures frames_after { frames.new ≡ read_frames order «data».now p place extent frames.old }
+    ensures value { result ≡ window_read r.entry.source.order r.entry.source.«data».now (Ok r.entry.cursor) place extent }
+    ensures quads_after { quads.new ≡ read_quads r.entry.source.order r.entry.source.«data».now (Ok r.entry.cursor) place extent quads.old }
+    ensures frames_after { frames.new ≡ read_frames r.entry.source.order r.entry.source.«data».now (Ok r.entry.cursor) place extent frames.old }
 {
-    let m = measure(order, data, p, place, extent);
-    fill(order, data, m, place, quads, frames);
-    given(m)
+    let m = match measure(&mut r, place, extent) {
+        Ok(m) => m,
+        Err(why) => return Parsed::refused(why),
+    };
+    fill(r.source, m, place, quads, frames);
+    Parsed::accepted(r.cursor, m.base, m.own.window)
+}
+
+// 1, 2 and 3
+#[tactic(auto, unfolding(crate::specs::Body::read_start, core_checks::specs::Checks::list_checked, core_read::specs::Taken::stop_if))]
+fn read_start(length: usize, place: usize, quads: &[u32], frames: &[u16]) -> Place
+    ensures { result ≡ read_start length place quads.now frames.now }
+{
+    let c = checks::body_start(length, place)?;
+    checks::list_checked(NumberList::Quads, 2040, quads.len())?;
+    checks::list_checked(NumberList::Frames, 510, frames.len())?;
+    Ok(c)
 }
 
 // The window pane at a place: checks 1, 2, 3, the reads with 4, then 7. A refusal leaves the lists as they were.
-pub fn parse(
-    order: ByteOrder,
-    data: &[u8],
+#[tactic(auto, using(crate::proofs::Calls::start_cleared, crate::proofs::Calls::measured_stays), unfolding(crate::specs::Body::window_parsed, crate::specs::Body::parsed_quads, crate::specs::Body::parsed_frames, crate::specs::Body::window_read, crate::specs::Body::read_quads, crate::specs::Body::read_frames, crate::specs::Body::quads_filled, crate::specs::Body::frames_filled, crate::specs::Body::window_given, core_checks::specs::Checks::unless_refused))]
+pub fn parse<'a>(
+    source: Source<'a>,
     place: usize,
     quads: &mut [u32],
     frames: &mut [u16],
-) -> WindowParsed
-    ensures value { result ≡ window_parsed order «data».now place quads.old frames.old }
-    ensures quads_after { quads.new ≡ parsed_quads order «data».now place quads.old frames.old }
-    ensures frames_after { frames.new ≡ parsed_frames order «data».now place quads.old frames.old }
-    ensures answer_value { parsed_by_number result.answer ≡ parsed_by_number (window_parsed order «data».now place quads.old frames.old).answer }
+) -> Parsed<WindowPane>
+    ensures value { result ≡ window_parsed source.entry.order source.entry.«data».now place quads.old frames.old }
+    ensures quads_after { quads.new ≡ parsed_quads source.entry.order source.entry.«data».now place quads.old frames.old }
+    ensures frames_after { frames.new ≡ parsed_frames source.entry.order source.entry.«data».now place quads.old frames.old }
+    ensures answer_value { parsed_by_number result.answer ≡ parsed_by_number (window_parsed source.entry.order source.entry.«data».now place quads.old frames.old).answer }
 {
-    let p = checks::body_start(data.len(), place);
-    let p = checks::list_checked(p, 1, 2040, quads.len());
-    let p = checks::list_checked(p, 4, 510, frames.len());
-    match p {
-        Ok(c) => read(order, data, Ok(c), place, None, quads, frames),
-        Err(why) => refused(why),
+    match read_start(source.data.len(), place, quads, frames) {
+        Ok(cursor) => read(Reader { source, cursor }, place, None, quads, frames),
+        Err(why) => Parsed::refused(why),
     }
 }
 
@@ -173,21 +141,20 @@ fn write_checked(
 }
 
 // The base, and what the kind adds.
-pub fn put_body(
-    order: ByteOrder,
-    out: &mut [u8],
-    p: usize,
+pub fn put_body<'a, 's>(
+    w: &'s mut Writer<'a>,
     b: Pane,
     x: WindowPane,
     quads: &[u32],
     frames: &[u16],
-) -> usize
-    requires sound { Sound b × GoodWindow quads.now frames.now × (p < 2 ^ 32) }
-    requires room { Room out.old p (body_length p quads.now frames.now) }
-    ensures { Put out.old p (body_length p quads.now frames.now) (encode_body order p b x quads.now frames.now) result out.new }
+)
+    requires sound { Sound b × GoodWindow quads.now frames.now × (w.old.place < 2 ^ 32) }
+    requires room { HasRoom w.old (body_length w.old.place quads.now frames.now) }
+    ensures { Puts w.old w.new (body_length w.old.place quads.now frames.now) (λ order. encode_body order w.old.place b x quads.now frames.now) }
 {
-    let q = pane::put_pane(order, out, p, b);
-    put_window(order, out, q, x, quads, frames, p)
+    let body = w.place;
+    pane::put_pane(w, b);
+    put_window(w, x, quads, frames, body);
 }
 
 // The window pane at a place: checks 1, 2, 9, 10, 11, 12, 16. A refusal leaves the output as it was; an accepted write answers its end, and changes no byte but its own.
@@ -206,5 +173,7 @@ pub fn write(
     ensures result_value { written_by_number result ≡ written_by_number (window_written b quads.now frames.now (length out.old) place) }
 {
     write_checked(b, quads, frames, out.len(), place)?;
-    Ok(put_body(order, out, place, b, x, quads, frames))
+    let mut w = Writer { order, out, place };
+    put_body(&mut w, b, x, quads, frames);
+    Ok(w.place)
 }

@@ -1,7 +1,7 @@
 -- The head of a window, as it is read: the 28 bytes after the base.
 use Rattle.std.specs.Prelude.{ℕ, List, ℤ}
 use Rattle.core_read.specs.Taken.{u8_taken, u16_taken, u32_taken, i16_taken, Place}
-use Rattle.core_read.specs.declared.cursor.Taken.{Taken}
+use Rattle.core_read.specs.Taken.{Taken}
 use Rattle.core_read.specs.declared.cursor.ByteOrder.{ByteOrder}
 use Rattle.flags.specs.Fields.{window_flags_of}
 use Rattle.window_head.specs.declared.Sides.{Sides}

@@ -1,7 +1,7 @@
 -- A loop that puts a list at the front of another, one element a store: what holds after i stores, with rest still to come.
-use mathlib.Core.Path.{◌≡◌, refl, sym, ap, ◌∙◌}
+use mathlib.Core.Path.{◌≡◌, sym, ap, ◌∙◌}
 use mathlib.Core.List.{List, [], ◌∷◌, ◌++◌}
-use Prim.Native.Nat.{ℕ, zero, suc, ◌+◌, ◌≤◌, ◌<◌, zero-le}
+use Prim.Native.Nat.{ℕ, zero, suc, ◌+◌, ◌≤◌, ◌<◌}
 use native.Mathlib.Nat.{le_of_suc-le-suc, not-suc-le-zero}
 use native.Mathlib.Numerals.{add-one}
 use native.Mathlib.Omega.{arith}
@@ -13,9 +13,6 @@ pub record Filling (all out₀ out : List ℕ) (i : ℕ) (rest : List ℕ) : Typ
   pub long : length out ≡ length out₀
   pub front : out ≡ take i all ++ drop i out₀
   pub left : drop i all ≡ rest
-
-pub filling_none : (all out : List ℕ) → Filling all out out 0 all
-filling_none all out = record { within = zero-le; long = refl; front = refl; left = refl }
 
 -- a store takes i elements to one more
 store : (all out : List ℕ) (i x : ℕ) (rest : List ℕ) → drop i all ≡ x ∷ rest → i < length out

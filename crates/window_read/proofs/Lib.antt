@@ -1,2 +1,5 @@
 pub mod Filling
 pub mod Run
+pub mod Through
+pub mod Measuring
+pub mod Frames

@@ -1,8 +1,8 @@
 -- What a window has beyond the base, as it is read: 28 bytes, then the content, the whole table and the frames at their offsets.
-use Rattle.std.specs.Prelude.{ℕ, ◌+◌, ◌-◌, ◌*◌, List, [], ◌∷◌, replicate, pos, Err, Ok}
-use Rattle.core_read.specs.Bytes.{Room}
+use Rattle.std.specs.Prelude.{ℕ, ◌+◌, ◌-◌, ◌*◌, ◌<◌, List, [], ◌∷◌, replicate, pos, Ok}
+use Rattle.core_read.specs.Bytes.{number_at, Room}
 use Rattle.core_read.specs.Taken.{sought, u8_taken, u16_taken, Place}
-use Rattle.core_read.specs.declared.cursor.Taken.{Taken}
+use Rattle.core_read.specs.Taken.{Taken}
 use Rattle.core_read.specs.Lists.{numbers_taken}
 use Rattle.core_read.specs.declared.cursor.ByteOrder.{ByteOrder}
 use Rattle.flags.specs.Enums.{flip_of, flip_number}
@@ -12,13 +12,13 @@ use Rattle.ui2d.specs.Parts.{colors_taken}
 use Rattle.window_read.specs.declared.WindowContent.{WindowContent}
 use Rattle.window_read.specs.declared.WindowPane.{WindowPane}
 use Rattle.window_head.specs.declared.WindowHead.{WindowHead}
-use Rattle.window_read.specs.declared.read.ContentTaken.{ContentTaken}
-use Rattle.window_read.specs.declared.read.FrameTaken.{FrameTaken}
-use Rattle.window_read.specs.declared.read.WindowTaken.{WindowTaken}
+use Rattle.window_read.specs.declared.WindowFrame.{WindowFrame}
+use Rattle.window_read.specs.declared.read.WindowFound.{WindowFound}
 use Rattle.ui2d.specs.declared.Color4u8.{Color4u8}
+use Rattle.core_read.specs.Taken.{cursor_of}
 
 -- four colours, material u16, quad count u8, 0
-unfoldable pub content_taken : ByteOrder → List ℕ → Place → ContentTaken
+unfoldable pub content_taken : ByteOrder → List ℕ → Place → Taken WindowContent
 content_taken order s p =
     let colors : Taken (List Color4u8) = colors_taken order s p in
     let material : Taken ℕ = u16_taken order s colors.then in
@@ -30,7 +30,7 @@ content_taken order s p =
     }
 
 -- a frame: material u16, flip u8, 0
-unfoldable pub frame_taken : ByteOrder → List ℕ → Place → FrameTaken
+unfoldable pub frame_taken : ByteOrder → List ℕ → Place → Taken WindowFrame
 frame_taken order s p =
     let material : Taken ℕ = u16_taken order s p in
     let flip : Taken ℕ = u8_taken order s material.then in
@@ -44,7 +44,7 @@ frame_taken order s p =
 unfoldable pub frames_taken : ByteOrder → List ℕ → ℕ → List ℕ → Place → Taken (List ℕ)
 frames_taken order s from [] p = record { value = []; then = p }
 frames_taken order s from (offset ∷ offsets) p =
-    let first : FrameTaken = frame_taken order s (sought s p (from + offset)) in
+    let first : Taken WindowFrame = frame_taken order s (sought s p (from + offset)) in
     let rest : Taken (List ℕ) = frames_taken order s from offsets first.then in
     record {
       value = first.value.material_index ∷ flip_number first.value.texture_flip_mode ∷ rest.value;
@@ -68,34 +68,37 @@ window_of h content = record {
 }
 
 -- THE READ from a place p of the run, of a body at B: head; content and quads, whole table, frames in order, by offsets from B − 8; ends at B + 104
-unfoldable pub window_taken : ByteOrder → List ℕ → Place → ℕ → WindowTaken
+unfoldable pub window_taken : ByteOrder → List ℕ → Place → ℕ → Taken WindowFound
 window_taken order s p body =
     let head : Taken WindowHead = head_taken order s p in
-    let content : ContentTaken = content_taken order s (sought s head.then (body - 8 + head.value.content_offset)) in
+    let content : Taken WindowContent = content_taken order s (sought s head.then (body - 8 + head.value.content_offset)) in
     let quads : Taken (List ℕ) = numbers_taken order 4 (8 * content.value.quad_count) s content.then in
     let to_table : Place = sought s quads.then (body - 8 + head.value.table_offset) in
     let table : Taken (List ℕ) = numbers_taken order 4 head.value.frame_count s to_table in
     let frames : Taken (List ℕ) = frames_taken order s (body - 8) table.value table.then in
     record {
-      window = window_of head.value content.value;
-      quads = content.then;
-      table = to_table;
-      frames = table.then;
+      value = record { window = window_of head.value content.value; quads = cursor_of content.then; table = cursor_of to_table };
       then = sought s frames.then (body + 104);
     }
 
 -- the numbers of its lists: quads as bits, frames as material and flip
-unfoldable pub window_quads : ByteOrder → List ℕ → WindowTaken → List ℕ
-window_quads order s t = (numbers_taken order 4 (8 * t.window.content.quad_count) s t.quads).value
+unfoldable pub window_quads : ByteOrder → List ℕ → WindowFound → List ℕ
+window_quads order s t = (numbers_taken order 4 (8 * t.window.content.quad_count) s (Ok t.quads)).value
 
-unfoldable pub window_frames : ByteOrder → List ℕ → WindowTaken → ℕ → List ℕ
+unfoldable pub window_frames : ByteOrder → List ℕ → WindowFound → ℕ → List ℕ
 window_frames order s t body =
-    (frames_taken order s (body - 8) (numbers_taken order 4 t.window.frame_count s t.table).value t.frames).value
+    let table : Taken (List ℕ) = numbers_taken order 4 t.window.frame_count s (Ok t.table) in
+    (frames_taken order s (body - 8) table.value table.then).value
 
--- a run stands at a place that has w bytes ahead
-unfoldable pub Ahead : List ℕ → Place → ℕ → Type 0
-Ahead s (Ok c) w = Room s c.pos w
-Ahead s (Err why) w = ⊥
+-- each of the n frames at the offsets of a table has its 4 bytes
+abbrev pub EachFrame : ByteOrder → List ℕ → ℕ → ℕ → ℕ → Type 0
+EachFrame order s from table n = (i : ℕ) → i < n → Room s (from + number_at order 4 s (table + 4 * i)) 4
+
+-- what a run that came through has passed: its quads, its table and its frames
+pub record Passed (order : ByteOrder) (s : List ℕ) (t : WindowFound) (body : ℕ) : Type 0 where
+  pub quads : Room s t.quads.pos (4 * (8 * t.window.content.quad_count))
+  pub table : Room s t.table.pos (4 * t.window.frame_count)
+  pub frames : EachFrame order s (body - 8) t.table.pos t.window.frame_count
 
 -- the window beside a refusal: numbers 0, first cases, false
 unfoldable pub blank_window : WindowPane

@@ -4,11 +4,14 @@
 pub mod read;
 
 ghost use Rattle.std.specs.Prelude.{◌≡◌};
-ghost use Rattle.window_read.specs.Window.{blank_window};
+ghost use Rattle.window_read.specs.Window.{content_taken, frame_taken, blank_window};
 ghost use Rattle.window_read.specs.Typed.{TypedWindow};
 
+use core_read::error::Refusal;
+use core_read::reader::{Field, Reader, Source};
 use flags::window::{TextureFlip, WindowFlags};
 use ui2d::Color4u8;
+use ui2d::material::Material;
 
 // The content without its quads, which stand in a lent list.
 #[derive(Clone, Copy)]
@@ -38,6 +41,65 @@ pub struct WindowPane {
     pub flag: WindowFlags,
     pub frame_count: u8,
     pub content: WindowContent,
+}
+
+// The reserved byte is read, and kept nowhere.
+impl Field for WindowContent {
+    ghost taken = { content_taken };
+
+    const WIDTH: usize = 20;
+
+    ghost WIDTH = { 20 };
+
+    #[tactic(auto, unfolding(crate::specs::Window::content_taken, ui2d::specs::Parts::colors_taken, ui2d::specs::Parts::color_taken, ui2d::specs::Material::material_taken, core_read::specs::Taken::number_taken))]
+    fn fields<'a, 's>(r: &'s mut Reader<'a>) -> Result<WindowContent, Refusal> {
+        let vertex_colors = ui2d::read_colors(r)?;
+        let material: Material = r.take()?;
+        Ok(WindowContent {
+            vertex_colors,
+            material_index: material.index,
+            quad_count: material.first,
+        })
+    }
+
+    fn at<'a>(source: Source<'a>, at: usize) -> WindowContent {
+        let vertex_colors = ui2d::colors_at(source, at);
+        let material = Material::at(source, at + 16);
+        WindowContent {
+            vertex_colors,
+            material_index: material.index,
+            quad_count: material.first,
+        }
+    }
+}
+
+// An unknown flip reads as None. The reserved byte is read, and kept nowhere.
+impl Field for WindowFrame {
+    ghost taken = { frame_taken };
+
+    const WIDTH: usize = 4;
+
+    ghost WIDTH = { 4 };
+
+    #[tactic(auto, unfolding(crate::specs::Window::frame_taken, core_read::specs::Taken::number_taken))]
+    fn fields<'a, 's>(r: &'s mut Reader<'a>) -> Result<WindowFrame, Refusal> {
+        let material_index = r.number()?;
+        let flip: u8 = r.number()?;
+        r.number::<u8>()?;
+        Ok(WindowFrame {
+            material_index,
+            texture_flip_mode: TextureFlip::from(flip),
+        })
+    }
+
+    fn at<'a>(source: Source<'a>, at: usize) -> WindowFrame {
+        let material_index = source.number_at(at);
+        let flip: u8 = source.number_at(at + 2);
+        WindowFrame {
+            material_index,
+            texture_flip_mode: TextureFlip::from(flip),
+        }
+    }
 }
 
 fn zero_color() -> Color4u8
@@ -80,6 +142,14 @@ pub fn blank_window() -> WindowPane
         flag: WindowFlags::from(0),
         frame_count: 0,
         content,
+    }
+}
+
+impl Default for WindowPane {
+    ghost is_default = { λ x. x ≡ blank_window };
+
+    fn default() -> WindowPane {
+        blank_window()
     }
 }
 

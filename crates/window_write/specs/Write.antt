@@ -4,11 +4,13 @@ use Rattle.core_read.specs.Bytes.{bytes_of, bytes_of_all, bits_of, padding}
 use Rattle.core_read.specs.Taken.{stop_if, Place}
 use Rattle.core_checks.specs.Checks.{count_checked}
 use Rattle.core_read.specs.declared.error.Refusal.TheVariants.{BadFlip}
+use Rattle.core_read.specs.declared.error.NumberList.TheVariants.{Quads, Frames}
 use Rattle.core_read.specs.declared.cursor.ByteOrder.{ByteOrder}
 use Rattle.flags.specs.Fields.{window_flags_number}
 use Rattle.ui2d.specs.Parts.{encode_colors}
 use Rattle.window_read.specs.declared.WindowContent.{WindowContent}
 use Rattle.window_read.specs.declared.WindowPane.{WindowPane}
+use Rattle.core_read.specs.declared.error.NumberList.TheVariants.{Quads, Frames}
 
 -- ---- checks
 
@@ -21,8 +23,8 @@ flips_checked p i (material ∷ flip ∷ frames) = flips_checked (stop_if p (ltb
 -- 11 for the quads, list 1, 11 for the frames, list 4, then 12
 unfoldable pub window_checked : Place → List ℕ → List ℕ → Place
 window_checked p quads frames =
-    let q : Place = count_checked p 1 8 (length quads) in
-    let r : Place = count_checked q 4 2 (length frames) in
+    let q : Place = count_checked p Quads 8 (length quads) in
+    let r : Place = count_checked q Frames 2 (length frames) in
     flips_checked r 0 frames
 
 -- each frame's flip is at most 5

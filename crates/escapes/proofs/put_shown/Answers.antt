@@ -7,5 +7,5 @@ returns-then-hide-never c = rw (shown_out c.args.hide c.args.b (rw c.is_control-
 pub returns-then-b : goal.returns-then-b
 returns-then-b c = rw (shown_backslash c.args.hide c.args.b (rw c.is_control-never.ensures at c.if-hide-never.false) c.if-b.true) c.put_bytes.ensures
 
-pub returns : goal.returns
-returns c = rw (shown_plain c.args.hide c.args.b (rw c.is_control-never.ensures at c.if-hide-never.false) c.if-b.false) c.put_bytes-2.ensures
+pub returns-else-b : goal.returns-else-b
+returns-else-b c = rw (shown_plain c.args.hide c.args.b (rw c.is_control-never.ensures at c.if-hide-never.false) c.if-b.false) c.put_bytes-else-b.ensures

@@ -1,11 +1,8 @@
-use Rattle.core_write.proofs.Puts.{◌then◌}
+use Rattle.core_write.proofs.Texts.{◌then◌}
 use Rattle.lines.specs.Answers.{section_line}
-use Rattle.lines.proofs.Sized.{put_sized}
 use native.Mathlib.Omega.{arith}
 use Rattle.lines.proofs.answer_line.Goals as goal
 
 pub returns : goal.returns
 unfolding section_line
-returns c =
-    let a = c.put_answer-q.ensures in
-    record { put = put_sized (a.put then c.put_bytes.ensures); upper_bound = omega arith }
+returns c = record { put = c.put_answer.ensures.put then c.put_bytes.ensures; upper_bound = omega (arith, c.put_answer.ensures.upper_bound, c.put_bytes.ensures.put.place) }

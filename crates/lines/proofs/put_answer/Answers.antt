@@ -1,19 +1,29 @@
+use mathlib.Core.Path.{◌≡◌}
+use Rattle.strip_header.specs.declared.Section.TheVariants.{End, Passed, Pane}
+use Rattle.core_write.proofs.Texts.{◌then◌}
 use Rattle.lines.specs.Answers.{section_text}
-use Rattle.lines.proofs.Sized.{put_sized}
 use native.Mathlib.Omega.{arith}
 use Rattle.lines.proofs.put_answer.Goals as goal
 
-pub returns-in-End : goal.returns-in-End
+pub returns-in-Ok-End : goal.returns-in-Ok-End
 unfolding section_text
-returns-in-End c = record { put = rw (c.in-Ok.is, c.in-End.is) (put_sized c.put_bytes.ensures); upper_bound = omega arith }
+returns-in-Ok-End c =
+    let e : c.in-Ok-End.field-0 ≡ End = rw c.in-Ok-End.is at c.in-Ok-End.field-0-is in
+    record { put = rw (c.in-Ok-End.is, e) c.put_bytes.ensures; upper_bound = omega (arith, c.put_bytes.ensures.put.place) }
 
-pub returns-in-Passed : goal.returns-in-Passed
+pub returns-in-Ok-Passed : goal.returns-in-Ok-Passed
 unfolding section_text
-returns-in-Passed c = record { put = rw (c.in-Ok.is, c.in-Passed.is) c.put_passed.ensures.put; upper_bound = omega arith }
+returns-in-Ok-Passed c =
+    let put = c.put_bytes-in-Ok-Passed.ensures then c.put_figure.ensures.put in
+    let e : c.in-Ok-Passed.field-0 ≡ Passed _ = rw c.in-Ok-Passed.is at c.in-Ok-Passed.field-0-is in
+    record { put = rw (c.in-Ok-Passed.is, e) put; upper_bound = omega (arith, c.put_bytes-in-Ok-Passed.ensures.put.place, c.put_figure.ensures.upper_bound) }
 
-pub returns-in-Pane : goal.returns-in-Pane
+pub returns-in-Ok-Pane : goal.returns-in-Ok-Pane
 unfolding section_text
-returns-in-Pane c = record { put = rw (c.in-Ok.is, c.in-Pane.is) c.put_pane.ensures.put; upper_bound = omega arith }
+returns-in-Ok-Pane c =
+    let put = (c.put_bytes-in-Ok-Pane.ensures then c.put_figure-in-Ok-Pane.ensures.put) then c.put_figure-in-Ok-Pane-2.ensures.put in
+    let e : c.in-Ok-Pane.field-0 ≡ Pane _ _ _ = rw c.in-Ok-Pane.is at c.in-Ok-Pane.field-0-is in
+    record { put = rw (c.in-Ok-Pane.is, e) put; upper_bound = omega (arith, c.put_bytes-in-Ok-Pane.ensures.put.place, c.put_figure-in-Ok-Pane.ensures.upper_bound, c.put_figure-in-Ok-Pane-2.ensures.upper_bound) }
 
 pub returns-in-Err : goal.returns-in-Err
 unfolding section_text

@@ -1,7 +1,7 @@
 use mathlib.Core.Path.{◌≡◌, ◌∙◌}
+use Rattle.core_write.proofs.Texts.{puts_named}
 use Rattle.lines.specs.Decimal.{decimal}
 use Rattle.lines.proofs.Decimals.{fewest_decimal, fewest_few}
-use Rattle.lines.proofs.Sized.{put_named}
 use native.Mathlib.Omega.{arith}
 use Rattle.lines.proofs.put_decimal.Goals as goal
 
@@ -16,4 +16,4 @@ returns c =
     let d = c.decimal-k.ensures in
     let few = fewest_few _ c.decimal-k.result d.len (omega arith) in
     let e : _ ≡ decimal _ = d.digits ∙ fewest_decimal _ _ d.len in
-    record { put = put_named e c.put_bytes.ensures; upper_bound = omega (arith, few) }
+    record { put = puts_named e c.put_bytes.ensures; upper_bound = omega (arith, few, c.put_bytes.ensures.put.place) }

@@ -1,11 +1,8 @@
-use Rattle.core_write.proofs.Puts.{◌then◌}
+use Rattle.core_write.proofs.Texts.{◌then◌}
 use Rattle.lines.specs.Answers.{figure}
-use Rattle.lines.proofs.Sized.{put_sized}
 use native.Mathlib.Omega.{arith}
 use Rattle.lines.proofs.put_figure.Goals as goal
 
 pub returns : goal.returns
 unfolding figure
-returns c =
-    let b = c.put_bytes-q.ensures in
-    record { put = put_sized (b then c.put_decimal.ensures.put); upper_bound = omega arith }
+returns c = record { put = c.put_bytes.ensures then c.put_decimal.ensures.put; upper_bound = omega (arith, c.put_bytes.ensures.put.place, c.put_decimal.ensures.upper_bound) }

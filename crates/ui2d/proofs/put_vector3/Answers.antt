@@ -1,8 +1,7 @@
-use Rattle.core_write.proofs.Puts.{◌then◌}
+use Rattle.core_write.proofs.Chain.{◌then◌}
 use Rattle.ui2d.specs.Parts.{encode_vector3}
 use Rattle.ui2d.proofs.put_vector3.Goals as goal
 
 pub returns : goal.returns
 unfolding encode_vector3
-returns c =
-    c.put_u32-q.ensures then c.put_u32-q-2.ensures then c.put_u32.ensures
+returns c = c.put_number.ensures then c.put_number-2.ensures then c.put_number-3.ensures

@@ -8,5 +8,5 @@ pub returns : goal.returns
 returns c =
     let walk = c.over-walk.ensures in
     let next = c.next-read.ensures in
-    let step = rw (walk.0, walk.1) at (next_made _ c.over-walk.result _ _ _ next.0 next.2) in
-    (step, rw (walk.0, walk.1) at next.1, ap (λ (x : Step). section_by_number x.answer) step)
+    let step = rw (walk.0, walk.1) at (next_made c.over-walk.result _ _ _ next.value next.moved) in
+    record { value = step; lists_after = rw (walk.0, walk.1) at next.lists_after; answer_value = ap (λ (x : Step). section_by_number x.answer) step }

@@ -1,7 +1,7 @@
-use Rattle.core_write.proofs.Puts.{◌then◌}
+use Rattle.core_write.proofs.Chain.{◌then◌}
 use Rattle.alignment.specs.Body.{encode_body}
 use Rattle.alignment.proofs.body.put_body.Goals as goal
 
 pub returns : goal.returns
 unfolding encode_body
-returns c = c.put_pane-q.ensures then c.put_alignment.ensures
+returns c = c.put_pane.ensures then c.put_alignment.ensures

@@ -1,15 +1,15 @@
-use Rattle.core_read.specs.Bytes.{splice}
-use mathlib.Core.Path.{refl}
-use lib.ListN.{length-set}
+use mathlib.Core.Path.{◌≡◌, sym, ap, ◌∙◌}
+use Prim.Native.Nat.{ℕ, ◌+◌}
+use mathlib.Core.List.{◌++◌}
+use lib.ListN.{length, drop}
 use native.Mathlib.Omega.{arith}
+use borrow.Author.Rules.{rules}
+use Rattle.core_write.proofs.Puts.{splice_cut}
+use Rattle.exports_answers.specs.Answers.{returned}
 use Rattle.exports_parts.proofs.counts.put.Goals as goal
 
-pub bounds-out-1 : goal.bounds-out-1
-bounds-out-1 c = simp length-set (omega arith)
-
-pub bounds-out-2 : goal.bounds-out-2
-bounds-out-2 c = simp length-set (omega arith)
-
 pub returns : goal.returns
-unfolding splice
-returns c = refl
+returns c =
+    let four : length c.args.counts ≡ 4 = search rules in
+    let end : 0 + length c.args.counts ≡ 4 = omega (arith, four) in
+    rw c.copy_from_slice.ensures.after (ap (returned 10) (sym (splice_cut c.args.out.now 0 c.args.counts (omega (arith, four, c.requires)) ∙ ap (λ (k : ℕ). c.args.counts ++ drop k c.args.out.now) end)))

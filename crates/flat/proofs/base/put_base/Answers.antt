@@ -3,7 +3,7 @@ use Rattle.flat.proofs.Lengths.{name_end, user_end, base_long}
 use mathlib.Core.Path.{◌≡◌, refl}
 use lib.ListN.{length}
 use borrow.Author.Rules.{rules}
-use Rattle.flat.proofs.Storing.{next}
+use Rattle.flat.proofs.Chain.{next}
 use Rattle.flat.proofs.base.put_base.Goals as goal
 
 pub returns : goal.returns

@@ -1,6 +1,6 @@
 use Rattle.flat_kinds.specs.Own.{window_words}
 use mathlib.Core.Path.{refl}
-use Rattle.flat.proofs.Storing.{next}
+use Rattle.flat.proofs.Chain.{next}
 use Rattle.flat_kinds.proofs.Sides.{sides_passed}
 use Rattle.flat_kinds.proofs.wnd1.put_window.Goals as goal
 

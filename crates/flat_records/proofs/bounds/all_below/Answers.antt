@@ -4,7 +4,7 @@ use Rattle.flat_records.proofs.Scanning.{within_at, checked_on, checked_stop}
 use Rattle.flat_records.proofs.bounds.all_below.Goals as goal
 
 pub below-requires : goal.below-requires
-below-requires c = omega (arith, within_at _ _ c.requires.within c.loop-from-test.true)
+below-requires c = omega (arith, within_at _ _ c.requires c.loop-from-test.true)
 
 pub returns-in_err-below : goal.returns-in_err-below
 returns-in_err-below c =

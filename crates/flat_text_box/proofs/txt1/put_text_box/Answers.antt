@@ -1,7 +1,7 @@
 use Rattle.flat_text_box.proofs.Lengths.{font_end}
 use Rattle.flat_text_box.specs.TextBox.{text_box_words}
 use mathlib.Core.Path.{refl}
-use Rattle.flat.proofs.Storing.{next}
+use Rattle.flat.proofs.Chain.{next}
 use Rattle.flat_text_box.proofs.txt1.put_text_box.Goals as goal
 
 pub returns : goal.returns

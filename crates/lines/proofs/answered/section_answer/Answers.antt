@@ -5,4 +5,4 @@ use Rattle.lines.proofs.answered.section_answer.Goals as goal
 
 pub returns : goal.returns
 unfolding answer_of full_lists
-returns c = ap (λ (r : SectionRead). r.answer) c.read_section-read.ensures.value
+returns c = ap (λ (r : SectionRead). r.answer) c.read_section.ensures.value

@@ -1,8 +1,7 @@
 use mathlib.Core.Path.{sym}
 use lib.Seq.{length-take-le}
 use native.Mathlib.Omega.{arith}
-use Rattle.core_write.proofs.Puts.{◌then◌}
-use Rattle.lines.proofs.Sized.{put_sized}
+use Rattle.core_write.proofs.Texts.{◌then◌, puts_text}
 use Rattle.lines.specs.Back.{written_text}
 use Rattle.lines.proofs.back.put_written.Goals as goal
 
@@ -19,11 +18,8 @@ unfolding written_text
 returns-in-Ok c =
     let fits = c.requires.2 _ c.in-Ok.is in
     let long = length-take-le _ c.args.section.now fits in
-    let space = c.put_bytes-q.ensures in
-    record { put = rw c.in-Ok.is (put_sized (space then c.put_hexadecimal.ensures)); upper_bound = omega arith }
+    record { put = rw c.in-Ok.is (c.put_bytes.ensures then puts_text c.put_hexadecimal.ensures); upper_bound = omega (arith, long, c.put_bytes.ensures.put.place, c.put_hexadecimal.ensures.put.place) }
 
 pub returns-in-Err : goal.returns-in-Err
 unfolding written_text
-returns-in-Err c =
-    let space = c.put_bytes-q.ensures in
-    record { put = rw c.in-Err.is (put_sized (space then c.put_refusal.ensures.put)); upper_bound = omega arith }
+returns-in-Err c = record { put = rw c.in-Err.is (c.put_bytes.ensures then c.put_refusal.ensures.put); upper_bound = omega (arith, c.put_bytes.ensures.put.place, c.put_refusal.ensures.upper_bound) }

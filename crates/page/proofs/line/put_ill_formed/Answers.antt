@@ -1,8 +1,8 @@
-use Rattle.core_write.proofs.Puts.{◌then◌}
+use Rattle.core_write.proofs.Texts.{◌then◌}
 use native.Mathlib.Omega.{arith}
-use Rattle.lines.proofs.Sized.{put_named}
-use Rattle.page.proofs.Parts.{ill_formed_parts}
+use Rattle.page.specs.PageLine.{ill_formed_text}
 use Rattle.page.proofs.line.put_ill_formed.Goals as goal
 
 pub returns : goal.returns
-returns c = record { put = put_named (ill_formed_parts _ _) ((c.put_bytes-p1.ensures then c.put_string-p2.ensures.put) then c.put_number.ensures.put); upper_bound = omega arith }
+unfolding ill_formed_text
+returns c = record { put = (((c.put_bytes.ensures then c.put_string.ensures.put) then c.put_bytes-2.ensures) then c.put_decimal.ensures.put) then c.put_bytes-3.ensures; upper_bound = omega (arith, c.put_bytes.ensures.put.place, c.put_string.ensures.upper_bound, c.put_bytes-2.ensures.put.place, c.put_decimal.ensures.upper_bound, c.put_bytes-3.ensures.put.place) }

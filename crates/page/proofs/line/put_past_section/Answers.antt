@@ -1,9 +1,8 @@
-use mathlib.Core.List.{append-nil}
+use Rattle.core_write.proofs.Texts.{◌then◌}
 use native.Mathlib.Omega.{arith}
-use Rattle.lines.proofs.Sized.{put_named}
 use Rattle.page.specs.PageLine.{past_section_text}
 use Rattle.page.proofs.line.put_past_section.Goals as goal
 
 pub returns : goal.returns
 unfolding past_section_text
-returns c = record { put = put_named (append-nil _) c.put_numbers.ensures.put; upper_bound = omega arith }
+returns c = record { put = ((c.put_bytes.ensures then c.put_decimal.ensures.put) then c.put_bytes-2.ensures) then c.put_decimal-2.ensures.put; upper_bound = omega (arith, c.put_bytes.ensures.put.place, c.put_decimal.ensures.upper_bound, c.put_bytes-2.ensures.put.place, c.put_decimal-2.ensures.upper_bound) }

@@ -1,6 +1,5 @@
 use mathlib.Core.Logic.{inl, inr}
 use native.Mathlib.Omega.{arith}
-use Rattle.lines.proofs.Sized.{put_sized}
 use Rattle.page.specs.PageLine.{no_nul_text, per_character_text, sentence}
 use Rattle.page.proofs.line.put_sentence.Goals as goal
 
@@ -10,11 +9,11 @@ returns-in-UnexpectedEof c = record { put = rw c.in-UnexpectedEof.is c.put_eof.e
 
 pub returns-in-NoNul : goal.returns-in-NoNul
 unfolding sentence no_nul_text
-returns-in-NoNul c = record { put = rw c.in-NoNul.is c.put_number.ensures.put; upper_bound = omega arith }
+returns-in-NoNul c = record { put = rw c.in-NoNul.is c.put_number.ensures.put; upper_bound = omega (arith, c.put_number.ensures.upper_bound) }
 
 pub returns-in-PerCharacter : goal.returns-in-PerCharacter
 unfolding sentence per_character_text
-returns-in-PerCharacter c = record { put = rw c.in-PerCharacter.is c.put_number-in-PerCharacter.ensures.put; upper_bound = omega arith }
+returns-in-PerCharacter c = record { put = rw c.in-PerCharacter.is c.put_number-in-PerCharacter.ensures.put; upper_bound = omega (arith, c.put_number-in-PerCharacter.ensures.upper_bound) }
 
 pub returns-in-IllFormedUtf8 : goal.returns-in-IllFormedUtf8
 unfolding sentence
@@ -32,7 +31,7 @@ returns-in-PastSection c = record { put = rw c.in-PastSection.is c.put_past_sect
 pub returns-in-TooLong : goal.returns-in-TooLong
 unfolding sentence
 returns-in-TooLong c =
-    let put = put_sized c.put_bytes.ensures in
+    let put = c.put_bytes.ensures in
     record {
       put =
           elim c.in-TooLong.is [
@@ -66,5 +65,5 @@ returns-in-TooLong c =
               ]
             ]
           ];
-      upper_bound = omega arith;
+      upper_bound = omega (arith, c.put_bytes.ensures.put.place);
     }

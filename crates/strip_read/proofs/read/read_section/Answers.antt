@@ -1,6 +1,7 @@
 use mathlib.Core.Path.{sym, ◌∙◌}
 use native.Mathlib.Omega.{arith}
 use Rattle.strip_records.specs.Whole.{lists}
+use Rattle.strip_records.proofs.Held.{filled_as, filled_none}
 use Rattle.strip_read.proofs.Cleared.{read_started}
 use Rattle.strip_read.proofs.Steps.{numbered, read_none, read_body_at, read_needs}
 use Rattle.strip_read.proofs.read.read_section.Goals as goal
@@ -18,10 +19,10 @@ read_kind-read-requires c =
 
 pub returns-in-Ok : goal.returns-in-Ok
 returns-in-Ok c =
-    let x = read_body_at _ _ _ (lists _ _ _ _) _ c.read_start-checked.ensures _ (sym c.body_at.ensures ∙ c.in-Ok.is) _ _ c.read_kind-read.ensures.value c.read_kind-read.ensures.frames_after in
-    let asked = numbered (c.finish.ensures ∙ x.0, x.1) in record { value = asked.0; frames_after = asked.1.0; answer_value = asked.1.1 }
+    let x = read_body_at _ _ _ (lists _ _ _ _) _ c.read_start-checked.ensures _ (sym c.body_at.ensures ∙ c.in-Ok.is) _ _ c.read_kind-read.ensures.value c.read_kind-read.ensures.lists_after.filled in
+    let asked = numbered (c.finish.ensures ∙ x.0, x.1) in record { value = asked.0; lists_after = filled_as c.read_kind-read.ensures.lists_after asked.1.0; answer_value = asked.1.1 }
 
 pub returns-in-Err : goal.returns-in-Err
 returns-in-Err c =
     let x = read_none _ _ _ (lists _ _ _ _) _ c.read_start-checked.ensures _ (sym c.body_at.ensures ∙ c.in-Err.is) in
-    let asked = numbered x in record { value = asked.0; frames_after = asked.1.0; answer_value = asked.1.1 }
+    let asked = numbered x in record { value = asked.0; lists_after = filled_none asked.1.0; answer_value = asked.1.1 }

@@ -3,6 +3,7 @@ use Rattle.core_read.specs.Bytes.{bytes_of}
 use Rattle.core_write.proofs.Puts.{◌then◌, put_as}
 use Rattle.strip_write.proofs.Steps.{letters_bytes}
 use Rattle.strip_write.proofs.Cleared.{size_bound}
+use borrow.Author.Rules.{rules}
 use native.Mathlib.Omega.{arith}
 use Rattle.strip_write.proofs.write.put_header.Goals as goal
 
@@ -11,6 +12,11 @@ overflow_cast-size c = omega (arith, c.section_size-size.ensures, size_bound c.a
 
 pub returns : goal.returns
 returns c =
-    put_as refl refl
-    (put_as refl (ap (bytes_of _ 4) c.letters-letters.ensures ∙ letters_bytes _) c.put_u32-q.ensures
-    then put_as refl (ap (bytes_of _ 4) c.section_size-size.ensures) c.put_u32.ensures)
+    let letters = c.put_number.ensures in
+    let size = c.put_number-2.ensures in
+    record {
+      order = search rules;
+      same = size.same ∙ letters.same;
+      put = put_as refl (ap (bytes_of _ 4) c.letters-letters.ensures ∙ letters_bytes _) letters.put
+          then put_as refl (ap (bytes_of _ 4) c.section_size-size.ensures) size.put;
+    }

@@ -10,7 +10,7 @@ pub bounds-out-i-in-loop-i : goal.bounds-out-i-in-loop-i
 bounds-out-i-in-loop-i c = simp length-set (omega arith)
 
 pub loop-i-preserved : goal.loop-i-preserved
-loop-i-preserved c = paired_more _ _ _ _ _ _ _ c.loop-i.invariant _ _ c.loop-i-test.true c.requires.1 c.u32_at.ensures c.u32_at-in-loop-i.ensures
+loop-i-preserved c = paired_more _ _ _ _ _ _ _ c.loop-i.invariant _ _ c.loop-i-test.true c.requires.1 c.number_at.ensures c.number_at-in-loop-i.ensures
 
 pub shape_of-out : goal.shape_of-out
 shape_of-out c = c.loop-i.invariant.long

@@ -14,13 +14,13 @@ pub returns-then-breaks : goal.returns-then-breaks
 returns-then-breaks c =
     let v = c.loop-unit.invariant in
     let s = c.in-Some.ensures.steps in
-    left_off _ _ _ _ _ _ v.1 _ _ _ s.1.0 (s.1.1 ∙ v.0) c.u16_at-u.ensures (sym c.breaks.ensures ∙ c.if-breaks.true)
+    left_off _ _ _ _ _ _ v.1 _ _ _ s.1.0 (s.1.1 ∙ v.0) c.number_at-u.ensures (sym c.breaks.ensures ∙ c.if-breaks.true)
 
 pub loop-unit-preserved : goal.loop-unit-preserved
 loop-unit-preserved c =
     let v = c.loop-unit.invariant in
     let s = c.in-Some.ensures.steps in
-    (s.0 ∙ v.0, rw c.high_surrogate-waits.ensures (left_more _ _ _ _ _ _ v.1 _ _ _ s.1.0 (s.1.1 ∙ v.0) c.u16_at-u.ensures (sym c.breaks.ensures ∙ c.if-breaks.false)))
+    (s.0 ∙ v.0, rw c.high_surrogate-waits.ensures (left_more _ _ _ _ _ _ v.1 _ _ _ s.1.0 (s.1.1 ∙ v.0) c.number_at-u.ensures (sym c.breaks.ensures ∙ c.if-breaks.false)))
 
 pub returns : goal.returns
 returns c =

@@ -5,4 +5,4 @@ use Rattle.text_box_write.proofs.write.text_box_length.Goals as goal
 
 pub returns : goal.returns
 unfolding layout_of text_box_length
-returns c = (ap (λ (l : Layout). l.length) c.lay_out-plan.ensures.0, c.lay_out-plan.ensures.1)
+returns c = (ap (λ (l : Layout). l.length) c.lay_out.ensures.0, c.lay_out.ensures.1)

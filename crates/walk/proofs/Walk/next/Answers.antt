@@ -10,4 +10,4 @@ returns c =
     let w : Walk = c.args.self.now in
     let read = c.read_section-read.ensures in
     let place = c.place_after-self.ensures ∙ ap (λ (r : SectionRead). place_after w.place r.answer) read.value in
-    (read.value, read.frames_after, ap (λ n. record { «data» = w.«data»; place = n }) place, read.answer_value)
+    record { value = read.value; lists_after = read.lists_after; moved = ap (λ n. record { source = w.source; place = n }) place; answer_value = read.answer_value }

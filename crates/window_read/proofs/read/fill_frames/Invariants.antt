@@ -1,8 +1,7 @@
-use Prim.Native.Nat.{◌-◌, ◌*◌}
-use Rattle.core_read.specs.Lists.{numbers_taken}
-use Rattle.window_read.specs.Window.{frames_taken}
+use Prim.Native.Nat.{◌*◌}
 use Rattle.window_read.proofs.Filling.{Filling}
+use Rattle.window_read.proofs.Frames.{numbers_left}
 use Rattle.window_read.proofs.read.fill_frames.Given as goal
 
 abbrev pub invariant-loop-i : goal.invariant-loop-i
-invariant-loop-i l = Filling (frames_taken l.order l.data l.from (numbers_taken l.order 4 l.n l.data l.initial.t).value l.initial.p).value l.initial.out l.out (2 * l.i) (frames_taken l.order l.data l.from (numbers_taken l.order 4 (l.n - l.i) l.data l.t).value l.p).value
+invariant-loop-i l = Filling (numbers_left l.source.order l.source.«data».now l.from l.table l.n 0) l.initial.out l.out (2 * l.i) (numbers_left l.source.order l.source.«data».now l.from l.table l.n l.i)

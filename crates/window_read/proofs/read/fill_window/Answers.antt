@@ -1,6 +1,8 @@
-use Rattle.window_read.specs.Window.{window_quads, window_frames}
+use Rattle.window_read.proofs.Frames.{quads_over, frames_over}
 use Rattle.window_read.proofs.read.fill_window.Goals as goal
 
-pub returns : goal.returns
-unfolding window_quads window_frames
-returns c = record { quads_after = c.fill_quads.ensures; frames_after = c.fill_frames.ensures }
+pub returns-clause-quads_after : goal.returns-clause-quads_after
+returns-clause-quads_after c = quads_over _ _ _ _ c.requires.measured _ _ c.fill_quads.ensures
+
+pub returns-clause-frames_after : goal.returns-clause-frames_after
+returns-clause-frames_after c = frames_over _ _ _ _ c.requires.measured _ _ c.fill_frames.ensures

@@ -1,20 +1,23 @@
-use mathlib.Core.Path.{refl, ◌∙◌}
-use Rattle.core_write.proofs.Puts.{◌then◌, put_as}
+use mathlib.Core.Path.{refl}
+use mir.Syntax.{w16}
+use mir.Val.{SFits}
+use borrow.Author.Rules.{rules}
+use Rattle.core_write.proofs.Chain.{◌then◌, puts_as}
 use Rattle.window_write.specs.Write.{encode_borders}
 use Rattle.window_write.proofs.Signed.{sides_passed}
-use native.Mathlib.Omega.{arith}
 use Rattle.window_write.proofs.write.put_borders.Goals as goal
-
-pub put_sides-requires : goal.put_sides-requires
-put_sides-requires c =
-    omega (arith, c.put_sides-q.ensures.place, c.put_sides-q.ensures.long, c.requires)
-
-pub shape_of-out : goal.shape_of-out
-shape_of-out c = c.put_sides.ensures.long ∙ c.put_sides-q.ensures.long
 
 pub returns : goal.returns
 unfolding encode_borders
 returns c =
-    let g = c.struct_told-4-1.given in
-    put_as refl (sides_passed _ _ _ _ _ (record { sfits = g.0.1 }) (record { sfits = g.1.0.1 }) (record { sfits = g.1.1.0.1 }) (record { sfits = g.1.1.1.0.1 })) c.put_sides-q.ensures
-    then put_as refl (sides_passed _ _ _ _ _ (record { sfits = g.1.1.1.1.0.1 }) (record { sfits = g.1.1.1.1.1.0.1 }) (record { sfits = g.1.1.1.1.1.1.0.1 }) (record { sfits = g.1.1.1.1.1.1.1.0.1 })) c.put_sides.ensures
+    let x = c.args.x in
+    let a : SFits w16 x.inflation_left = search rules in
+    let b : SFits w16 x.inflation_right = search rules in
+    let d : SFits w16 x.inflation_top = search rules in
+    let e : SFits w16 x.inflation_bottom = search rules in
+    let f : SFits w16 x.frame_size_left = search rules in
+    let g : SFits w16 x.frame_size_right = search rules in
+    let h : SFits w16 x.frame_size_top = search rules in
+    let i : SFits w16 x.frame_size_bottom = search rules in
+    puts_as refl (λ order. sides_passed order _ _ _ _ a b d e) c.put_sides.ensures
+    then puts_as refl (λ order. sides_passed order _ _ _ _ f g h i) c.put_sides-2.ensures

@@ -2,7 +2,7 @@ use mathlib.Core.Path.{◌≡◌, refl, ap}
 use Prim.Native.Nat.{ℕ, ◌+◌, ◌*◌, ◌/◌, ◌≤◌}
 use lib.ListN.{length, replicate}
 use Rattle.core_read.specs.Bytes.{bytes_of_all}
-use Rattle.core_write.proofs.Puts.{◌then◌, put_as}
+use Rattle.core_write.proofs.Chain.{◌then◌, puts_as}
 use Rattle.window_write.specs.Write.{table_offset, content_padding, window_length, encode_head, frame_offsets, encode_window}
 use native.Mathlib.Omega.{arith}
 use borrow.Author.Rules.{rules}
@@ -18,17 +18,17 @@ table : (body q k : ℕ) → k ≡ content_padding body q → 132 + 4 * q + k �
 unfolding table_offset
 table body q k e = omega arith
 
-pub put_head-q-requires : goal.put_head-q-requires
-put_head-q-requires c = omega (arith, room _ _ _ _ _ _ c.content_padding-zeros.ensures.0 c.requires.room, c.requires)
+pub put_head-requires : goal.put_head-requires
+put_head-requires c = omega (arith, room _ _ _ _ _ _ c.content_padding-zeros.ensures.0 c.requires.room, c.requires)
 
-pub put_content-q-requires : goal.put_content-q-requires
-put_content-q-requires c = record { quads_len_bound = search rules; room = omega (arith, room _ _ _ _ _ _ c.content_padding-zeros.ensures.0 c.requires.room, c.requires) }
+pub put_content-requires : goal.put_content-requires
+put_content-requires c = record { quads_len_bound = search rules; room = omega (arith, room _ _ _ _ _ _ c.content_padding-zeros.ensures.0 c.requires.room, c.requires) }
 
-pub put_zeros-q-requires : goal.put_zeros-q-requires
-put_zeros-q-requires c = omega (arith, room _ _ _ _ _ _ c.content_padding-zeros.ensures.0 c.requires.room, c.requires)
+pub put_zeros-requires : goal.put_zeros-requires
+put_zeros-requires c = omega (arith, room _ _ _ _ _ _ c.content_padding-zeros.ensures.0 c.requires.room, c.requires)
 
-pub put_offsets-q-requires : goal.put_offsets-q-requires
-put_offsets-q-requires c = omega (arith, room _ _ _ _ _ _ c.content_padding-zeros.ensures.0 c.requires.room, c.requires)
+pub put_offsets-requires : goal.put_offsets-requires
+put_offsets-requires c = omega (arith, room _ _ _ _ _ _ c.content_padding-zeros.ensures.0 c.requires.room, c.requires)
 
 pub put_frames-requires : goal.put_frames-requires
 put_frames-requires c = omega (arith, room _ _ _ _ _ _ c.content_padding-zeros.ensures.0 c.requires.room, c.requires)
@@ -38,9 +38,9 @@ unfolding encode_window window_length
 returns c =
     let n = length c.args.frames.now / 2 in
     let z = c.content_padding-zeros.ensures.0 in
-    put_as (omega (arith, z)) refl
-    (put_as refl (ap (encode_head c.args.order c.args.x n) (table _ _ _ z)) c.put_head-q.ensures
-    then c.put_content-q.ensures
-    then put_as z (ap (λ (k : ℕ). replicate k 0) z) c.put_zeros-q.ensures
-    then put_as refl (ap (λ (a : ℕ). bytes_of_all c.args.order 4 (frame_offsets (a + 4 * n) n)) (table _ _ _ z)) c.put_offsets-q.ensures
+    puts_as (omega (arith, z)) (λ order. refl)
+    (puts_as refl (λ order. ap (encode_head order c.args.x n) (table _ _ _ z)) c.put_head.ensures
+    then c.put_content.ensures
+    then puts_as z (λ order. ap (λ (k : ℕ). replicate k 0) z) c.put_zeros.ensures
+    then puts_as refl (λ order. ap (λ (a : ℕ). bytes_of_all order 4 (frame_offsets (a + 4 * n) n)) (table _ _ _ z)) c.put_offsets.ensures
     then c.put_frames.ensures)

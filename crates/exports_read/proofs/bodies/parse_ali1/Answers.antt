@@ -1,7 +1,0 @@
-use Rattle.strip_kinds.specs.Body.{body_parsed}
-use Rattle.exports_read.specs.Outcomes.{body_finished}
-use Rattle.exports_read.proofs.bodies.parse_ali1.Goals as goal
-
-pub returns : goal.returns
-unfolding body_parsed body_finished
-returns c = λ l. rw (← c.parse-read.ensures.value) (c.deliver.ensures l)

@@ -73,15 +73,22 @@ impl Default for AlignmentPane {
     }
 }
 
+// By a writer of its own: a compiler keeps its place and output in registers, and reads those of a lent one anew for each number.
 pub fn put_alignment<'a, 's>(w: &'s mut Writer<'a>, a: AlignmentPane)
     requires { HasRoom w.old 12 }
     ensures { Puts w.old w.new 12 (λ order. encode_alignment order a) }
 {
-    w.put_number(a.direction);
-    w.put_number(a.default_margin.bits);
-    w.put_number(u8::from(a.is_align_last_pane));
-    w.put_number(u8::from(a.is_vertical_alignment));
-    w.put_number(0u16);
+    let mut own = Writer {
+        order: w.order,
+        out: &mut *w.out,
+        place: w.place,
+    };
+    own.put_number(a.direction);
+    own.put_number(a.default_margin.bits);
+    own.put_number(u8::from(a.is_align_last_pane));
+    own.put_number(u8::from(a.is_vertical_alignment));
+    own.put_number(0u16);
+    w.place = own.place;
 }
 
 // Every alignment pane is one that TypedAlignment describes.

@@ -2,7 +2,7 @@
 use lib.ListN.{set}
 use mir.Val.{sel, SFits}
 use mir.Facts.{to_z-of_z, sfits_to_z}
-use Rattle.std.proofs.Common.{◌≡◌, ℕ, zero, suc, ◌+◌, ◌-◌, ◌*◌, ◌/◌, ◌%◌, ◌^◌, ◌<◌, ◌≤◌, List, [], ◌∷◌, ◌++◌, length, slice_index, ℤ, pos, negsuc, refl, sym, ap, ◌∙◌, arith, reverse, Bool, true, false, cond, ltb, add_assoc}
+use Rattle.std.proofs.Common.{◌≡◌, ℕ, zero, suc, ◌+◌, ◌-◌, ◌*◌, ◌/◌, ◌%◌, ◌^◌, ◌<◌, ◌≤◌, List, [], ◌∷◌, ◌++◌, length, get_or, slice_index, ℤ, pos, negsuc, refl, sym, ap, ◌∙◌, arith, reverse, Bool, true, false, cond, ltb, add_assoc}
 use Rattle.std.proofs.Math.Nat.{div-div-eq-div-mul, div-one, mul_left_comm, pow-suc, pow-succ'}
 use Rattle.std.proofs.lemmas.List.{length-reverse, reverse-append, get_or-reverse}
 use Rattle.std.specs.Int.{Width, w8, w16, w32, w64, w128, byte_len, byte_at, byte_worth, bytes_low_first, bytes_high_first, sum_through, to_le_bytes, to_be_bytes, from_le_bytes, from_be_bytes, cast_signed, cast_unsigned}
@@ -114,6 +114,13 @@ unfolding spelled
 spelled_big w bs h = from_high (byte_len w - 1) bs (h ∙ byte_len_pos w)
 
 -- a byte is itself in every order
+-- the bytes the other way round, read lowest first, are read highest first
+pub turned2 : (s : List ℕ) → ◌≡◌ {A = ℕ} (get_or s 1 0 + get_or s 0 0 * 256) (from_be_bytes w16 s)
+turned2 s = omega arith
+
+pub turned4 : (s : List ℕ) → ◌≡◌ {A = ℕ} (get_or s 3 0 + get_or s 2 0 * 256 + get_or s 1 0 * 65536 + get_or s 0 0 * 16777216) (from_be_bytes w32 s)
+turned4 s = omega arith
+
 pub spelled_byte : (order : ByteOrder) (bs : List ℕ) → length bs ≡ 1 → slice_index bs 0 ≡ spelled order bs
 spelled_byte Little bs h = spelled_little w8 bs h
 spelled_byte Big bs h = spelled_big w8 bs h

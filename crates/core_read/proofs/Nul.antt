@@ -64,7 +64,7 @@ no_nul [] f = refl
 no_nul (b ∷ l) f = rw (ne_eqb b 0 (f 0 (omega arith))) (ap (λ (t : List ℕ). b ∷ t) (no_nul l (λ k p. f (suc k) (omega arith))))
 
 -- a store takes a copy of i bytes to a copy of one more
-store : (src dst : List ℕ) (i : ℕ) → i < length src → i < length dst → set (take i src ++ drop i dst) i (get_or src i 0) ≡ take (suc i) src ++ drop (suc i) dst
+pub store : (src dst : List ℕ) (i : ℕ) → i < length src → i < length dst → set (take i src ++ drop i dst) i (get_or src i 0) ≡ take (suc i) src ++ drop (suc i) dst
 store [] dst i h k = absurd (not-suc-le-zero h)
 store (x ∷ xs) [] i h k = absurd (not-suc-le-zero k)
 store (x ∷ xs) (y ∷ ys) zero h k = refl

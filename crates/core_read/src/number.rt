@@ -65,10 +65,9 @@ impl Number for u16 {
     ghost of_bits = { λ n. n };
 
     fn of_bytes(order: ByteOrder, bytes: &[u8]) -> u16 {
-        let b = [bytes[0], bytes[1]];
         match order {
-            ByteOrder::Little => u16::from_le_bytes(b),
-            ByteOrder::Big => u16::from_be_bytes(b),
+            ByteOrder::Little => u16::from_le_bytes([bytes[0], bytes[1]]),
+            ByteOrder::Big => u16::from_le_bytes([bytes[1], bytes[0]]),
         }
     }
 
@@ -94,10 +93,9 @@ impl Number for u32 {
     ghost of_bits = { λ n. n };
 
     fn of_bytes(order: ByteOrder, bytes: &[u8]) -> u32 {
-        let b = [bytes[0], bytes[1], bytes[2], bytes[3]];
         match order {
-            ByteOrder::Little => u32::from_le_bytes(b),
-            ByteOrder::Big => u32::from_be_bytes(b),
+            ByteOrder::Little => u32::from_le_bytes([bytes[0], bytes[1], bytes[2], bytes[3]]),
+            ByteOrder::Big => u32::from_le_bytes([bytes[3], bytes[2], bytes[1], bytes[0]]),
         }
     }
 

@@ -1,13 +1,14 @@
 // Lent bytes, and a reader that goes through them: nnbfl's `Cursor`. A step moves the reader on or is refused, and is taken with `?`.
-ghost use Rattle.std.specs.Prelude.{◌≡◌, ℕ, List, ◌++◌, ◌+◌, ◌*◌, ◌≤◌, ◌<◌, length, drop};
+ghost use Rattle.std.specs.Prelude.{◌≡◌, ℕ, List, Err, ◌++◌, ◌+◌, ◌*◌, ◌≤◌, ◌<◌, length, drop};
 ghost use Rattle.core_read.specs.Bytes.{Room, number_at};
 ghost use Rattle.core_read.specs.Lists.{numbers_taken, numbers_at};
-ghost use Rattle.core_read.specs.Steps.{Took, Went, Stands, number_as};
+ghost use Rattle.core_read.specs.Steps.{Took, Went, Stands, Lendable, StepsAs, Came, number_as};
 ghost use Rattle.core_read.specs.Taken.{start, sought, number_taken, label_taken, as_count, Place as PlaceOf, Taken as TakenOf};
+ghost use Rattle.core_read.specs.declared.error.Refusal.{Refusal as Why};
 ghost use Rattle.core_read.specs.declared.error.Refusal.TheVariants.{UnexpectedEof};
 ghost use Rattle.core_read.specs.declared.cursor.ByteOrder.{ByteOrder as Order};
 
-use crate::cursor::{ByteOrder, Cursor};
+use crate::cursor::{ByteOrder, Cursor, Place};
 use crate::error::Refusal;
 use crate::number::Number;
 use crate::{cursor, text};
@@ -64,6 +65,25 @@ impl<'a> Source<'a> {
             source: self,
             cursor: Cursor::start(place),
         }
+    }
+
+    // A step from the place of a run, and where the run stands then. A run that was refused does nothing more: its refusal stands.
+    pub fn step<T, F: FnOnce(&mut Reader<'a>) -> Result<T, Refusal>>(
+        self,
+        place: Place,
+        step: F,
+    ) -> Result<(T, Cursor), Refusal>
+        requires { Lendable F.FnOnce step self place }
+        ensures came { (taken : Order → List ℕ → PlaceOf → TakenOf T) → StepsAs F.FnOnce step self.entry place taken → Came self.entry place result taken }
+        ensures refused { (why : Why) → place ≡ Err why → result ≡ Err why }
+    {
+        let cursor = place?;
+        let mut r = Reader {
+            source: self,
+            cursor,
+        };
+        let value = step(&mut r)?;
+        Ok((value, r.cursor))
     }
 
     // The number at a place.

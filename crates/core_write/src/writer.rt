@@ -14,6 +14,16 @@ pub fn padding_at(p: usize) -> usize
     (4 - (p & 3)) & 3
 }
 
+// The bytes of src, one by one: for lent bytes copy_from_slice is a call of memmove, which the archive for C needs for nothing else.
+fn copy_bytes(src: &[u8], out: &mut [u8])
+    requires { length out.old ≡ length src.now }
+    ensures { out.new ≡ src.now }
+{
+    for (i, b) in src.iter().enumerate() {
+        out[i] = *b;
+    }
+}
+
 // Lent bytes that are written to, the order of their numbers, and the place of the next byte.
 #[derive(Drop)]
 pub struct Writer<'a> {
@@ -61,7 +71,7 @@ impl<'a> Writer<'a> {
         ensures { Puts self.old self.new (length s.now) (λ order. s.now) }
     {
         let end = self.place + s.len();
-        self.out[self.place..end].copy_from_slice(s);
+        copy_bytes(s, &mut self.out[self.place..end]);
         self.place = end;
     }
 

@@ -1,7 +1,7 @@
 // What a call answers: the number that it returns, and its answer's words, each kind of answer in turn.
 ghost use Rattle.std.specs.Prelude.{◌≡◌, ◌≤◌, length, Ok};
 ghost use Rattle.exports_answers.specs.declared.answers.Fault.TheVariants.{BadWord as BadWordOf, Refused};
-ghost use Rattle.exports_answers.specs.Answers.{or_bad_order, order_of, refused_answer, fault_answer, section_answer, written_answer, Told, section_told, written_told, part_told, returned, given};
+ghost use Rattle.exports_answers.specs.Answers.{or_bad_order, order_of, refused_answer, fault_answer, section_answer, written_answer, Told, section_told, written_told, part_answer, part_told, returned, given};
 
 use core_read::cursor::ByteOrder;
 use core_read::error::Refusal;
@@ -154,6 +154,18 @@ pub struct Part {
     pub length: usize,
 }
 
+// A part of the bytes that a number names: 0 the strip's, 1 the lent caption's.
+pub fn part_answer(which: u64, place: usize, length: usize) -> Answer
+    ensures { result ≡ part_answer which place length }
+{
+    Answer {
+        code: layout::PART,
+        a: which,
+        b: place as u64,
+        c: length as u64,
+    }
+}
+
 impl From<Part> for Answer {
     ghost from_gives = { λ part x. x ≡ part_told (Ok part) };
 
@@ -163,12 +175,7 @@ impl From<Part> for Answer {
             PartOf::Strip => 0,
             PartOf::Caption => 1,
         };
-        Answer {
-            code: layout::PART,
-            a: which,
-            b: place as u64,
-            c: length as u64,
-        }
+        part_answer(which, place, length)
     }
 }
 

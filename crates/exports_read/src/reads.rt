@@ -43,7 +43,7 @@ fn read_in<'a, 'l, 't, 'w, 's>(
             let r = Reader { source, cursor };
             sections::read_kind(r, b.kind, place + 8, b.next, lists, words)
         }
-        Err(read) => read.answer,
+        Err(answer) => answer,
     }
 }
 

@@ -5,10 +5,10 @@ use native.Mathlib.Nat.{add-zero}
 use native.Mathlib.Omega.{arith}
 use native.Mathlib.Numerals.{add-one}
 use mathlib.Core.List.{List, [], ◌∷◌, ◌++◌}
-use lib.ListN.{length, take, drop, set, length-set}
+use lib.ListN.{length, take, drop, set, get_or, length-set}
 use lib.Seq.{drop-drop, take_all, take-suc-set}
 use Rattle.core_read.specs.Bytes.{splice}
-use Rattle.core_write.proofs.Puts.{length_splice, splice_append, splice_cut}
+use Rattle.core_write.proofs.Puts.{length_splice, splice_append, splice_cut, take_more}
 use Rattle.std.proofs.Common.{append_assoc}
 use borrow.Rule.Slice.PartMut.{put_mid}
 use Rattle.flat.specs.Words.{Stored, byte_at, bytes_at}
@@ -37,6 +37,29 @@ stored_run o p e {m} h k =
     let cut : put_mid p (p + length e - p) o m ≡ splice o p e =
     rw (n, k) (ap (λ (l : List ℕ). take p o ++ (e ++ l)) (drop-drop (length e) p o) ∙ sym (splice_cut o p e h ∙ append_assoc (take p o) e (drop (p + length e) o))) in
     record { long = ap length cut ∙ length_splice o p e; words = cut }
+
+-- ---- a loop that copies a list into a run as long as it
+
+-- the first i of r are those of s
+pub record Copied (s r : List ℕ) (i : ℕ) : Type 0 where
+  pub within : i ≤ length s
+  pub long : length r ≡ length s
+  pub front : take i r ≡ take i s
+
+pub copied_none : (s r : List ℕ) → length r ≡ length s → Copied s r 0
+copied_none s r h = record { within = omega arith; long = h; front = refl }
+
+pub copied_more : (s : List ℕ) {r : List ℕ} {i : ℕ} → i < length s → Copied s r i → Copied s (set r i (get_or s i 0)) (i + 1)
+copied_more s {r} {i} h k =
+    let below : i < length r = omega (arith, k.long) in
+    record {
+      within = omega arith;
+      long = length-set r i (get_or s i 0) ∙ k.long;
+      front = rw add-one (take-suc-set r i (get_or s i 0) below ∙ ap (λ (l : List ℕ). l ++ (get_or s i 0 ∷ [])) k.front) ∙ sym (take_more s i h);
+    }
+
+pub copied_all : (s : List ℕ) {r : List ℕ} {i : ℕ} → length s ≤ i → Copied s r i → r ≡ s
+copied_all s {r} {i} h k = sym (take_all i r (omega (arith, k.long))) ∙ k.front ∙ take_all i s h
 
 -- ---- a loop that reads bytes back
 

@@ -1,10 +1,11 @@
 // The words of the base.
 ghost use Rattle.std.specs.Prelude.{◌≤◌, ◌+◌, length, ◌∷◌, ◌≡◌};
+ghost use Rattle.flat.specs.Words.{Stored};
 ghost use Rattle.flat.specs.Lent.{Stores};
 ghost use Rattle.flat.specs.Base.{pane_flags_words, position_words, flag_ex_words, transform_words, base_words, pane_flags_at, position_at, flag_ex_at, string_at, base_at};
 
-use crate::layout;
 use crate::words::{Words, WordsMut};
+use crate::{layout, words};
 use core_read::text::FixedString;
 use flags::pane::{PaneFlags, PaneFlagsEx};
 use flags::position::{BflytPosition, HorizontalPosition, VerticalPosition};
@@ -13,8 +14,9 @@ use ui2d::{Vector2f, Vector3f};
 
 // ---- stored
 
-fn put_flags<'a, 's>(out: &'s mut WordsMut<'a>, f: PaneFlags)
-    ensures { Stores out.old out.new 1 (pane_flags_words f) }
+fn put_flags(out: &mut [u64], f: PaneFlags)
+    requires { 116 ≤ length out.old }
+    ensures { Stored out.old 1 (pane_flags_words f) out.new }
 {
     let words = [
         f.is_visible as u64,
@@ -26,11 +28,12 @@ fn put_flags<'a, 's>(out: &'s mut WordsMut<'a>, f: PaneFlags)
         f.is_global_matrix_user as u64,
         f.is_constant_buffer_ready as u64,
     ];
-    out.store(layout::PANE_FLAGS, &words);
+    words::store(out, layout::PANE_FLAGS, &words);
 }
 
-fn put_position<'a, 's>(out: &'s mut WordsMut<'a>, g: BflytPosition)
-    ensures { Stores out.old out.new 9 (position_words g) }
+fn put_position(out: &mut [u64], g: BflytPosition)
+    requires { 116 ≤ length out.old }
+    ensures { Stored out.old 9 (position_words g) out.new }
 {
     let x = g.position_x;
     let y = g.position_y;
@@ -42,11 +45,12 @@ fn put_position<'a, 's>(out: &'s mut WordsMut<'a>, g: BflytPosition)
         u8::from(parent_x) as u64,
         u8::from(parent_y) as u64,
     ];
-    out.store(layout::POSITION, &words);
+    words::store(out, layout::POSITION, &words);
 }
 
-fn put_flag_ex<'a, 's>(out: &'s mut WordsMut<'a>, alpha: u8, x: PaneFlagsEx)
-    ensures { Stores out.old out.new 13 (flag_ex_words alpha x) }
+fn put_flag_ex(out: &mut [u64], alpha: u8, x: PaneFlagsEx)
+    requires { 116 ≤ length out.old }
+    ensures { Stored out.old 13 (flag_ex_words alpha x) out.new }
 {
     let words = [
         alpha as u64,
@@ -55,26 +59,21 @@ fn put_flag_ex<'a, 's>(out: &'s mut WordsMut<'a>, alpha: u8, x: PaneFlagsEx)
         x.is_ext_user_data as u64,
         x.reserve0 as u64,
     ];
-    out.store(layout::ALPHA, &words);
+    words::store(out, layout::ALPHA, &words);
 }
 
 // A fixed string: its count, and from the next word on every byte of the array.
-fn put_string<'a, 's>(out: &'s mut WordsMut<'a>, at: usize, count: usize, bytes: &[u8])
-    requires { at + 1 + length bytes.now ≤ length out.old.words.now }
-    ensures { Stores out.old out.new at (count ∷ bytes.now) }
+fn put_string(out: &mut [u64], at: usize, count: usize, bytes: &[u8])
+    requires { at + 1 + length bytes.now ≤ length out.old }
+    ensures { Stored out.old at (count ∷ bytes.now) out.new }
 {
-    out.set(at, count as u64);
-    out.store_bytes(at + 1, bytes);
+    out[at] = count as u64;
+    words::store_bytes(out, at + 1, bytes);
 }
 
-fn put_transform<'a, 's>(
-    out: &'s mut WordsMut<'a>,
-    t: Vector3f,
-    r: Vector3f,
-    c: Vector2f,
-    s: Vector2f,
-)
-    ensures { Stores out.old out.new 52 (transform_words t r c s) }
+fn put_transform(out: &mut [u64], t: Vector3f, r: Vector3f, c: Vector2f, s: Vector2f)
+    requires { 116 ≤ length out.old }
+    ensures { Stored out.old 52 (transform_words t r c s) out.new }
 {
     let words = [
         t.x.bits as u64,
@@ -88,28 +87,29 @@ fn put_transform<'a, 's>(
         s.x.bits as u64,
         s.y.bits as u64,
     ];
-    out.store(layout::TRANSLATION, &words);
+    words::store(out, layout::TRANSLATION, &words);
 }
 
 pub fn put_base<'a, 's>(out: &'s mut WordsMut<'a>, b: Pane)
     ensures { Stores out.old out.new 1 (base_words b) × (length (base_words b) ≡ 61) }
 {
-    put_flags(out, b.pane_flags);
-    put_position(out, b.position);
-    put_flag_ex(out, b.alpha, b.flag_ex);
+    let words = &mut *out.words;
+    put_flags(words, b.pane_flags);
+    put_position(words, b.position);
+    put_flag_ex(words, b.alpha, b.flag_ex);
     put_string(
-        out,
+        words,
         layout::NAME_COUNT,
         b.pane_name.count,
         &b.pane_name.bytes,
     );
     put_string(
-        out,
+        words,
         layout::USER_COUNT,
         b.user_name.count,
         &b.user_name.bytes,
     );
-    put_transform(out, b.translation, b.rotation, b.scale, b.size);
+    put_transform(words, b.translation, b.rotation, b.scale, b.size);
 }
 
 // ---- read back

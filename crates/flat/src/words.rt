@@ -2,7 +2,7 @@
 ghost use Rattle.std.specs.Prelude.{◌≡◌, ℕ, ◌+◌, ◌%◌, ◌≤◌, get_or, length, None, Some, [], ◌∷◌};
 ghost use Rattle.flags.specs.Packed.{flag_of};
 ghost use Rattle.floats.specs.Floats.{float};
-ghost use Rattle.flat.specs.Words.{flag_word, color_words, colors_words, option_words, vector2_at, vector3_at, quadruple_at, colors_at, bytes_at, option_at};
+ghost use Rattle.flat.specs.Words.{Stored, flag_word, color_words, colors_words, option_words, byte_at, float_at, vector2_at, vector3_at, quadruple_at, colors_at, bytes_at, option_at};
 
 use crate::layout;
 use floats::Binary32;
@@ -100,6 +100,127 @@ pub struct BadWord {
     pub index: usize,
 }
 
+// ---- stored at a place of any words: a word each
+
+pub fn store(out: &mut [u64], at: usize, words: &[u64])
+    requires { at + length words.now ≤ length out.old }
+    ensures { Stored out.old at words.now out.new }
+{
+    out[at..at + words.len()].copy_from_slice(words);
+}
+
+// Each byte as a word.
+pub fn store_bytes(out: &mut [u64], at: usize, bytes: &[u8])
+    requires { at + length bytes.now ≤ length out.old }
+    ensures { Stored out.old at bytes.now out.new }
+{
+    let run = &mut out[at..at + bytes.len()];
+    for (i, byte) in bytes.iter().enumerate() {
+        run[i] = *byte as u64;
+    }
+}
+
+// A flag, and what stands behind it: 0 where there is nothing.
+pub fn store_option<T: Word>(out: &mut [u64], at: usize, x: Option<T>)
+    requires { at + 2 ≤ length out.old }
+    ensures { Stored out.old at (option_words T.word x) out.new }
+{
+    let words = match x {
+        None => [0u64, 0],
+        Some(v) => [1, v.to_word()],
+    };
+    store(out, at, &words);
+}
+
+pub fn store_color(out: &mut [u64], at: usize, v: Color4u8)
+    requires { at + 4 ≤ length out.old }
+    ensures { Stored out.old at (color_words v) out.new }
+{
+    let words = [v.r as u64, v.g as u64, v.b as u64, v.a as u64];
+    store(out, at, &words);
+}
+
+// Four corners.
+pub fn store_colors(out: &mut [u64], at: usize, v: [Color4u8; 4])
+    requires { at + 16 ≤ length out.old }
+    ensures { Stored out.old at (colors_words v) out.new }
+{
+    store_color(out, at, v[0]);
+    store_color(out, at + 4, v[1]);
+    store_color(out, at + 8, v[2]);
+    store_color(out, at + 12, v[3]);
+}
+
+// ---- read at a place of any words
+
+pub fn byte_at(w: &[u64], at: usize) -> u8
+    requires { at + 1 ≤ length w.now }
+    ensures { result ≡ byte_at w.now at }
+{
+    u8::of_word(w[at])
+}
+
+pub fn float_at(w: &[u64], at: usize) -> Binary32
+    requires { at + 1 ≤ length w.now }
+    ensures { result ≡ float_at w.now at }
+{
+    Binary32::of_word(w[at])
+}
+
+pub fn vector2_at(w: &[u64], at: usize) -> Vector2f
+    requires { at + 2 ≤ length w.now }
+    ensures { result ≡ vector2_at w.now at }
+{
+    let x = float_at(w, at);
+    let y = float_at(w, at + 1);
+    Vector2f { x, y }
+}
+
+pub fn vector3_at(w: &[u64], at: usize) -> Vector3f
+    requires { at + 3 ≤ length w.now }
+    ensures { result ≡ vector3_at w.now at }
+{
+    Vector3f {
+        x: float_at(w, at),
+        y: float_at(w, at + 1),
+        z: float_at(w, at + 2),
+    }
+}
+
+pub fn color_at(w: &[u64], at: usize) -> Color4u8
+    requires { at + 4 ≤ length w.now }
+    ensures { result ≡ quadruple_at w.now at }
+{
+    Color4u8 {
+        r: byte_at(w, at),
+        g: byte_at(w, at + 1),
+        b: byte_at(w, at + 2),
+        a: byte_at(w, at + 3),
+    }
+}
+
+pub fn colors_at(w: &[u64], at: usize) -> [Color4u8; 4]
+    requires { at + 16 ≤ length w.now }
+    ensures { result ≡ colors_at w.now at }
+{
+    [
+        color_at(w, at),
+        color_at(w, at + 4),
+        color_at(w, at + 8),
+        color_at(w, at + 12),
+    ]
+}
+
+// The low byte of each word, as many as out has.
+pub fn bytes_at(w: &[u64], at: usize, out: &mut [u8])
+    requires { at + length out.old ≤ length w.now }
+    ensures { out.new ≡ bytes_at w.now at (length out.old) }
+{
+    for (i, byte) in out.iter_mut().enumerate() {
+        *byte = byte_at(w, at + i);
+    }
+}
+
 // The words of a record, read.
 #[derive(Clone, Copy)]
 pub struct Words<'a> {
@@ -143,45 +264,28 @@ impl<'a> Words<'a> {
         requires { at + 2 ≤ length self.words.now }
         ensures { result ≡ vector2_at self.entry.words.now at }
     {
-        Vector2f {
-            x: self.at(at),
-            y: self.at(at + 1),
-        }
+        vector2_at(self.words, at)
     }
 
     pub fn vector3_at(self, at: usize) -> Vector3f
         requires { at + 3 ≤ length self.words.now }
         ensures { result ≡ vector3_at self.entry.words.now at }
     {
-        Vector3f {
-            x: self.at(at),
-            y: self.at(at + 1),
-            z: self.at(at + 2),
-        }
+        vector3_at(self.words, at)
     }
 
     pub fn color_at(self, at: usize) -> Color4u8
         requires { at + 4 ≤ length self.words.now }
         ensures { result ≡ quadruple_at self.entry.words.now at }
     {
-        Color4u8 {
-            r: self.at(at),
-            g: self.at(at + 1),
-            b: self.at(at + 2),
-            a: self.at(at + 3),
-        }
+        color_at(self.words, at)
     }
 
     pub fn colors_at(self, at: usize) -> [Color4u8; 4]
         requires { at + 16 ≤ length self.words.now }
         ensures { result ≡ colors_at self.entry.words.now at }
     {
-        [
-            self.color_at(at),
-            self.color_at(at + 4),
-            self.color_at(at + 8),
-            self.color_at(at + 12),
-        ]
+        colors_at(self.words, at)
     }
 
     // The low byte of each word, as many as out has.
@@ -189,9 +293,7 @@ impl<'a> Words<'a> {
         requires { at + length out.old ≤ length self.words.now }
         ensures { out.new ≡ bytes_at self.entry.words.now at (length out.old) }
     {
-        for (i, byte) in out.iter_mut().enumerate() {
-            *byte = self.at(at + i);
-        }
+        bytes_at(self.words, at, out);
     }
 }
 
@@ -217,7 +319,7 @@ impl<'a> WordsMut<'a> {
         requires { at + length words.now ≤ length self.old.words.now }
         ensures { Stores self.old self.new at words.now }
     {
-        self.words[at..at + words.len()].copy_from_slice(words);
+        store(self.words, at, words);
     }
 
     // Each byte as a word.
@@ -225,9 +327,7 @@ impl<'a> WordsMut<'a> {
         requires { at + length bytes.now ≤ length self.old.words.now }
         ensures { Stores self.old self.new at bytes.now }
     {
-        for (i, byte) in bytes.iter().enumerate() {
-            self.set(at + i, *byte as u64);
-        }
+        store_bytes(self.words, at, bytes);
     }
 
     // A flag, and what stands behind it: 0 where there is nothing.
@@ -235,19 +335,14 @@ impl<'a> WordsMut<'a> {
         requires { at + 2 ≤ length self.old.words.now }
         ensures { Stores self.old self.new at (option_words T.word x) }
     {
-        let words = match x {
-            None => [0u64, 0],
-            Some(v) => [1, v.to_word()],
-        };
-        self.store(at, &words);
+        store_option(self.words, at, x);
     }
 
     pub fn store_color<'s>(&'s mut self, at: usize, v: Color4u8)
         requires { at + 4 ≤ length self.old.words.now }
         ensures { Stores self.old self.new at (color_words v) }
     {
-        let words = [v.r as u64, v.g as u64, v.b as u64, v.a as u64];
-        self.store(at, &words);
+        store_color(self.words, at, v);
     }
 
     // Four corners.
@@ -255,9 +350,6 @@ impl<'a> WordsMut<'a> {
         requires { at + 16 ≤ length self.old.words.now }
         ensures { Stores self.old self.new at (colors_words v) }
     {
-        self.store_color(at, v[0]);
-        self.store_color(at + 4, v[1]);
-        self.store_color(at + 8, v[2]);
-        self.store_color(at + 12, v[3]);
+        store_colors(self.words, at, v);
     }
 }

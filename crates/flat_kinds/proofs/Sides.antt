@@ -13,9 +13,7 @@ use Rattle.core_read.proofs.TwosComplement.{signed_fits}
 use Rattle.flags.specs.declared.window.WindowFlags.{WindowFlags}
 use Rattle.window_read.specs.declared.WindowContent.{WindowContent}
 use Rattle.window_read.specs.declared.WindowPane.{WindowPane}
-use Rattle.flat.specs.Words.{half_at, byte_at}
-use Rattle.flat.specs.Lent.{Stores}
-use Rattle.flat.specs.declared.words.WordsMut.{WordsMut}
+use Rattle.flat.specs.Words.{Stored, half_at, byte_at}
 use Rattle.flat_kinds.specs.Own.{side_at, window_flags_at, content_at, window_at}
 
 -- a side and its word
@@ -26,13 +24,13 @@ pub record Side (z : ℤ) (n : ℕ) : Type 0 where
 one : {z : ℤ} {n : ℕ} → Side z n → n ≡ bits_of z
 one s = s.word ∙ ap bits_of (to_z-of_z s.fits)
 
-pub sides_stored : {o o' : WordsMut} {p a b c d : ℕ} {l r t u : ℤ} → Side l a → Side r b → Side t c → Side u d
-    → Stores o o' p (a ∷ b ∷ c ∷ d ∷ []) → Stores o o' p (bits_of l ∷ bits_of r ∷ bits_of t ∷ bits_of u ∷ [])
+pub sides_stored : {o o' : List ℕ} {p a b c d : ℕ} {l r t u : ℤ} → Side l a → Side r b → Side t c → Side u d
+    → Stored o p (a ∷ b ∷ c ∷ d ∷ []) o' → Stored o p (bits_of l ∷ bits_of r ∷ bits_of t ∷ bits_of u ∷ []) o'
 sides_stored sa sb sc sd h = rw (one sa, one sb, one sc, one sd) at h
 
 -- four sides handed to a call
-pub sides_passed : {o o' : WordsMut} {p : ℕ} {l r t u : ℤ} → SFits w16 l → SFits w16 r → SFits w16 t → SFits w16 u
-    → Stores o o' p (bits_of (passed l) ∷ bits_of (passed r) ∷ bits_of (passed t) ∷ bits_of (passed u) ∷ []) → Stores o o' p (bits_of l ∷ bits_of r ∷ bits_of t ∷ bits_of u ∷ [])
+pub sides_passed : {o o' : List ℕ} {p : ℕ} {l r t u : ℤ} → SFits w16 l → SFits w16 r → SFits w16 t → SFits w16 u
+    → Stored o p (bits_of (passed l) ∷ bits_of (passed r) ∷ bits_of (passed t) ∷ bits_of (passed u) ∷ []) o' → Stored o p (bits_of l ∷ bits_of r ∷ bits_of t ∷ bits_of u ∷ []) o'
 sides_passed fl fr ft fu = sides_stored (record { word = refl; fits = fl }) (record { word = refl; fits = fr }) (record { word = refl; fits = ft }) (record { word = refl; fits = fu })
 
 back : (w : List ℕ) (i : ℕ) (z : ℤ) → z ≡ side_at w i → passed z ≡ side_at w i

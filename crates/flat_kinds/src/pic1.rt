@@ -3,19 +3,20 @@ ghost use Rattle.std.specs.Prelude.{◌≡◌};
 ghost use Rattle.flat.specs.Lent.{Stores};
 ghost use Rattle.flat_kinds.specs.Own.{picture_words, picture_at};
 
-use flat::layout;
 use flat::words::{Words, WordsMut};
+use flat::{layout, words};
 use picture_fields::PicturePane;
 
 pub fn put_picture<'a, 's>(out: &'s mut WordsMut<'a>, x: PicturePane)
     ensures { Stores out.old out.new 62 (picture_words x) }
 {
+    let out = &mut *out.words;
     let colors = x.vertex_colors;
     let shape = x.shape_info_array_index;
     let words = [x.material_index as u64, x.quad_count as u64];
-    out.store_colors(layout::PICTURE_COLORS, colors);
-    out.store(layout::PICTURE_MATERIAL, &words);
-    out.store_option(layout::SHAPE_PRESENT, shape);
+    words::store_colors(out, layout::PICTURE_COLORS, colors);
+    words::store(out, layout::PICTURE_MATERIAL, &words);
+    words::store_option(out, layout::SHAPE_PRESENT, shape);
 }
 
 #[tactic(auto, unfolding(crate::specs::Own::picture_at))]

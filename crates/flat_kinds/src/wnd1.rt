@@ -1,27 +1,21 @@
 // The words that a window has beyond the base.
 ghost use Rattle.std.specs.Prelude.{◌+◌, ◌≤◌, length, [], ◌∷◌, ◌≡◌};
+ghost use Rattle.flat.specs.Words.{Stored};
 ghost use Rattle.flat.specs.Lent.{Stores};
 ghost use Rattle.core_read.specs.Bytes.{bits_of};
 ghost use Rattle.flat_kinds.specs.Own.{window_flags_words, content_words, window_words, side_at, window_flags_at, content_at, window_at};
 
 use core_read::signed;
 use flags::window::{WindowFlags, WindowKind};
-use flat::layout;
 use flat::words::{Words, WordsMut};
+use flat::{layout, words};
 use window_read::{WindowContent, WindowPane};
 
 // ---- stored
 
-fn put_sides<'a, 's>(
-    out: &'s mut WordsMut<'a>,
-    at: usize,
-    left: i16,
-    right: i16,
-    top: i16,
-    bottom: i16,
-)
-    requires { at + 4 ≤ length out.old.words.now }
-    ensures { Stores out.old out.new at (bits_of left ∷ bits_of right ∷ bits_of top ∷ bits_of bottom ∷ []) }
+fn put_sides(out: &mut [u64], at: usize, left: i16, right: i16, top: i16, bottom: i16)
+    requires { at + 4 ≤ length out.old }
+    ensures { Stored out.old at (bits_of left ∷ bits_of right ∷ bits_of top ∷ bits_of bottom ∷ []) out.new }
 {
     let words = [
         signed::bits_of(left) as u64,
@@ -29,11 +23,12 @@ fn put_sides<'a, 's>(
         signed::bits_of(top) as u64,
         signed::bits_of(bottom) as u64,
     ];
-    out.store(at, &words);
+    words::store(out, at, &words);
 }
 
-fn put_flag<'a, 's>(out: &'s mut WordsMut<'a>, f: WindowFlags, frame_count: u8)
-    ensures { Stores out.old out.new 70 (window_flags_words f frame_count) }
+fn put_flag(out: &mut [u64], f: WindowFlags, frame_count: u8)
+    requires { 116 ≤ length out.old }
+    ensures { Stored out.old 70 (window_flags_words f frame_count) out.new }
 {
     let kind = f.window_kind;
     let words = [
@@ -43,23 +38,25 @@ fn put_flag<'a, 's>(out: &'s mut WordsMut<'a>, f: WindowFlags, frame_count: u8)
         f.not_draw_content as u64,
         frame_count as u64,
     ];
-    out.store(layout::WINDOW_FLAGS, &words);
+    words::store(out, layout::WINDOW_FLAGS, &words);
 }
 
-fn put_content<'a, 's>(out: &'s mut WordsMut<'a>, x: WindowContent)
-    ensures { Stores out.old out.new 75 (content_words x) }
+fn put_content(out: &mut [u64], x: WindowContent)
+    requires { 116 ≤ length out.old }
+    ensures { Stored out.old 75 (content_words x) out.new }
 {
     let colors = x.vertex_colors;
     let words = [x.material_index as u64, x.quad_count as u64];
-    out.store_colors(layout::CONTENT_COLORS, colors);
-    out.store(layout::CONTENT_MATERIAL, &words);
+    words::store_colors(out, layout::CONTENT_COLORS, colors);
+    words::store(out, layout::CONTENT_MATERIAL, &words);
 }
 
 pub fn put_window<'a, 's>(out: &'s mut WordsMut<'a>, x: WindowPane)
     ensures { Stores out.old out.new 62 (window_words x) }
 {
+    let words = &mut *out.words;
     put_sides(
-        out,
+        words,
         layout::INFLATION,
         x.inflation_left,
         x.inflation_right,
@@ -67,15 +64,15 @@ pub fn put_window<'a, 's>(out: &'s mut WordsMut<'a>, x: WindowPane)
         x.inflation_bottom,
     );
     put_sides(
-        out,
+        words,
         layout::FRAME_SIZE,
         x.frame_size_left,
         x.frame_size_right,
         x.frame_size_top,
         x.frame_size_bottom,
     );
-    put_flag(out, x.flag, x.frame_count);
-    put_content(out, x.content);
+    put_flag(words, x.flag, x.frame_count);
+    put_content(words, x.content);
 }
 
 // ---- read back

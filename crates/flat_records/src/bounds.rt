@@ -1,6 +1,6 @@
 // The bounds that the words of a record stay below. Counts, label place and label length have none: a write does not read them.
 ghost use Rattle.std.specs.Prelude.{◌≡◌, ◌+◌, ◌≤◌, length, IsTrue, nat_le, position};
-ghost use Rattle.flat_records.specs.Below.{good, scanned, checked_by, base_bounds, own_checked, all_within};
+ghost use Rattle.flat_records.specs.Below.{good, scanned, or_scanned, checked_by, base_bounds, own_checked, all_within};
 
 use flat::layout;
 use flat::words::{BadWord, Words};
@@ -63,13 +63,31 @@ fn first_not_below(words: &[u64], bound: u64) -> Option<usize>
 }
 
 // The first of so many words from a place on that is not below the bound.
-fn below(w: Words, from: usize, count: usize, bound: u64) -> Result<(), BadWord>
-    requires { from + count ≤ length w.words.now }
-    ensures { result ≡ scanned w.entry.words.now from count bound }
+pub fn below(w: &[u64], from: usize, count: usize, bound: u64) -> Result<(), BadWord>
+    requires { from + count ≤ length w.now }
+    ensures { result ≡ scanned w.now from count bound }
 {
-    match first_not_below(&w.words[from..from + count], bound) {
+    match first_not_below(&w[from..from + count], bound) {
         Some(i) => Err(BadWord { index: from + i }),
         None => Ok(()),
+    }
+}
+
+// The same, unless a word before them is bad.
+#[tactic(auto, unfolding(crate::specs::Below::or_scanned))]
+pub fn or_below(
+    before: Result<(), BadWord>,
+    w: &[u64],
+    from: usize,
+    count: usize,
+    bound: u64,
+) -> Result<(), BadWord>
+    requires { from + count ≤ length w.now }
+    ensures { result ≡ or_scanned before w.now from count bound }
+{
+    match before {
+        Ok(()) => below(w, from, count, bound),
+        Err(bad) => Err(bad),
     }
 }
 
@@ -79,12 +97,13 @@ pub fn all_below(w: Words, bounds: &[Bound]) -> Result<(), BadWord>
     ensures { result ≡ checked_by good bounds.now w.entry.words.now }
 {
     for (from, count, bound) in bounds {
-        below(w, *from, *count, *bound)?;
+        below(w.words, *from, *count, *bound)?;
     }
     Ok(())
 }
 
-// The words of the base, then those of the kind.
+// The words of the base, then those of the kind. Not inlined: the words would be kept from here on for the fields that are made of them later, and be put by meanwhile.
+#[inline(never)]
 pub fn words_checked(w: Words, kind: Kind) -> Result<(), BadWord>
     ensures { result ≡ own_checked kind (checked_by good base_bounds w.entry.words.now) w.entry.words.now }
 {

@@ -1,22 +1,23 @@
 // The words that a text box has beyond the base.
-ghost use Rattle.std.specs.Prelude.{length, ◌≡◌};
+ghost use Rattle.std.specs.Prelude.{◌≤◌, length, ◌≡◌};
 ghost use Rattle.flags.specs.Enums.{alignment_of};
+ghost use Rattle.flat.specs.Words.{Stored, byte_at};
 ghost use Rattle.flat.specs.Lent.{Stores};
-ghost use Rattle.flat.specs.Words.{byte_at};
 ghost use Rattle.flat_text_box.specs.TextBox.{indices_words, text_flags_words, measure_words, font_words, shadow_words, text_words, label_words, parts_words, text_box_words, origin_at, text_flags_at, measure_at, text_at, label_at, lines_at, text_box_at};
 
 use flags::position::{HorizontalPosition, TextPosition, VerticalPosition};
 use flags::text::{TextAlignment, TextPaneFlags};
-use flat::layout;
 use flat::words::{Words, WordsMut};
+use flat::{layout, words};
 use floats::Binary32;
 use text_box_parts::{Span, Text};
 use text_box_read::{FontMeasure, TextBoxPane};
 
 // ---- stored
 
-fn put_indices<'a, 's>(out: &'s mut WordsMut<'a>, x: TextBoxPane)
-    ensures { Stores out.old out.new 62 (indices_words x) }
+fn put_indices(out: &mut [u64], x: TextBoxPane)
+    requires { 116 ≤ length out.old }
+    ensures { Stored out.old 62 (indices_words x) out.new }
 {
     let origin = x.text_origin;
     let horizontal = origin.horizontal;
@@ -31,11 +32,12 @@ fn put_indices<'a, 's>(out: &'s mut WordsMut<'a>, x: TextBoxPane)
         u8::from(vertical) as u64,
         u8::from(alignment) as u64,
     ];
-    out.store(layout::TEXT_BUFFER_SIZE, &words);
+    words::store(out, layout::TEXT_BUFFER_SIZE, &words);
 }
 
-fn put_flags<'a, 's>(out: &'s mut WordsMut<'a>, f: TextPaneFlags)
-    ensures { Stores out.old out.new 69 (text_flags_words f) }
+fn put_flags(out: &mut [u64], f: TextPaneFlags)
+    requires { 116 ≤ length out.old }
+    ensures { Stored out.old 69 (text_flags_words f) out.new }
 {
     let words = [
         f.is_enable_shadow as u64,
@@ -53,33 +55,36 @@ fn put_flags<'a, 's>(out: &'s mut WordsMut<'a>, f: TextPaneFlags)
         f.is_per_character_transform_fix_space as u64,
         f.is_per_character_transform_split_insert_space as u64,
     ];
-    out.store(layout::TEXT_FLAGS, &words);
+    words::store(out, layout::TEXT_FLAGS, &words);
 }
 
-fn put_measure<'a, 's>(out: &'s mut WordsMut<'a>, m: FontMeasure)
-    ensures { Stores out.old out.new 83 (measure_words m) }
+fn put_measure(out: &mut [u64], m: FontMeasure)
+    requires { 116 ≤ length out.old }
+    ensures { Stored out.old 83 (measure_words m) out.new }
 {
     let words = match m {
         FontMeasure::Size(v) => [0u64, v.x.bits as u64, v.y.bits as u64],
         FontMeasure::Scale(v) => [1, v.x.bits as u64, v.y.bits as u64],
     };
-    out.store(layout::MEASURE_KIND, &words);
+    words::store(out, layout::MEASURE_KIND, &words);
 }
 
-fn put_font<'a, 's>(out: &'s mut WordsMut<'a>, x: TextBoxPane)
-    ensures { Stores out.old out.new 83 (font_words x) }
+fn put_font(out: &mut [u64], x: TextBoxPane)
+    requires { 116 ≤ length out.old }
+    ensures { Stored out.old 83 (font_words x) out.new }
 {
     let measure = x.font_measure;
     let tilt = x.italic_tilt;
     let words = [tilt.bits as u64];
     put_measure(out, measure);
-    out.store(layout::ITALIC_TILT, &words);
-    out.store_color(layout::FONT_TOP_COLOR, x.font_top_color);
-    out.store_color(layout::FONT_BOTTOM_COLOR, x.font_bottom_color);
+    words::store(out, layout::ITALIC_TILT, &words);
+    words::store_color(out, layout::FONT_TOP_COLOR, x.font_top_color);
+    words::store_color(out, layout::FONT_BOTTOM_COLOR, x.font_bottom_color);
 }
 
-fn put_shadow<'a, 's>(out: &'s mut WordsMut<'a>, x: TextBoxPane)
-    ensures { Stores out.old out.new 95 (shadow_words x) }
+fn put_shadow(out: &mut [u64], x: TextBoxPane)
+    requires { 116 ≤ length out.old }
+    ensures { Stored out.old 95 (shadow_words x) out.new }
 {
     let t = x.shadow_translation;
     let s = x.shadow_size;
@@ -93,50 +98,58 @@ fn put_shadow<'a, 's>(out: &'s mut WordsMut<'a>, x: TextBoxPane)
         s.x.bits as u64,
         s.y.bits as u64,
     ];
-    out.store(layout::CHARACTER_SPACE, &words);
-    out.store_color(layout::SHADOW_TOP_COLOR, x.shadow_top_color);
-    out.store_color(layout::SHADOW_BOTTOM_COLOR, x.shadow_bottom_color);
+    words::store(out, layout::CHARACTER_SPACE, &words);
+    words::store_color(out, layout::SHADOW_TOP_COLOR, x.shadow_top_color);
+    words::store_color(out, layout::SHADOW_BOTTOM_COLOR, x.shadow_bottom_color);
 }
 
-fn put_text<'a, 's>(out: &'s mut WordsMut<'a>, tilt: Binary32, x: Text)
-    ensures { Stores out.old out.new 109 (text_words tilt x) }
+fn put_text(out: &mut [u64], tilt: Binary32, x: Text)
+    requires { 116 ≤ length out.old }
+    ensures { Stored out.old 109 (text_words tilt x) out.new }
 {
     let present = match x {
         Text::Absent => 0u64,
         Text::Present => 1,
     };
-    out.store(layout::SHADOW_ITALIC_TILT, &[tilt.bits as u64, present]);
+    words::store(
+        out,
+        layout::SHADOW_ITALIC_TILT,
+        &[tilt.bits as u64, present],
+    );
 }
 
-fn put_label<'a, 's>(out: &'s mut WordsMut<'a>, x: Option<Span>)
-    ensures { Stores out.old out.new 111 (label_words x) }
+fn put_label(out: &mut [u64], x: Option<Span>)
+    requires { 116 ≤ length out.old }
+    ensures { Stored out.old 111 (label_words x) out.new }
 {
     let words = match x {
         None => [0u64, 0, 0],
         Some(Span { place, length }) => [1, place as u64, length as u64],
     };
-    out.store(layout::LABEL_PRESENT, &words);
+    words::store(out, layout::LABEL_PRESENT, &words);
 }
 
-fn put_parts<'a, 's>(out: &'s mut WordsMut<'a>, x: TextBoxPane)
-    ensures { Stores out.old out.new 109 (parts_words x) }
+fn put_parts(out: &mut [u64], x: TextBoxPane)
+    requires { 116 ≤ length out.old }
+    ensures { Stored out.old 109 (parts_words x) out.new }
 {
     let text = x.text;
     let label = x.label;
     let table = x.line_table;
     put_text(out, x.shadow_italic_tilt, text);
     put_label(out, label);
-    out.store_option(layout::LINES_PRESENT, table);
+    words::store_option(out, layout::LINES_PRESENT, table);
 }
 
 pub fn put_text_box<'a, 's>(out: &'s mut WordsMut<'a>, x: TextBoxPane)
     ensures { Stores out.old out.new 62 (text_box_words x) }
 {
-    put_indices(out, x);
-    put_flags(out, x.text_flags);
-    put_font(out, x);
-    put_shadow(out, x);
-    put_parts(out, x);
+    let words = &mut *out.words;
+    put_indices(words, x);
+    put_flags(words, x.text_flags);
+    put_font(words, x);
+    put_shadow(words, x);
+    put_parts(words, x);
 }
 
 // ---- read back

@@ -1,9 +1,11 @@
 // Limits of document 01, written into a section and read back in both byte orders: one line of answer each.
 #![tactic(auto)]
 
+mod put;
 mod records;
 mod shown;
 
+use crate::put::{print_figure, print_named, print_refusal};
 use core_read::cursor::ByteOrder;
 use core_read::error::Refusal;
 use core_read::reader::Source;
@@ -18,7 +20,9 @@ use strip::record::Record;
 fn print_read(rt: &impl Print, answer: Result<Section, Refusal>, r: Record) -> io::Result<()> {
     match answer {
         Ok(Section::Pane { end, next, reach }) => {
-            print!(rt; ", read: pane {end} {next}, reach {reach}")?;
+            print_named(rt, ", read: pane", end)?;
+            print_figure(rt, next)?;
+            print_named(rt, ", reach", reach)?;
             shown::show(rt, r)
         }
         Ok(Section::Passed { next: _ }) => print!(rt; ", passed"),
@@ -30,7 +34,11 @@ fn print_read(rt: &impl Print, answer: Result<Section, Refusal>, r: Record) -> i
 // What the section at place 0 is measured as, with no list lent: the three places that the read has told, again.
 fn print_measured(rt: &impl Print, answer: Result<Section, Refusal>) -> io::Result<()> {
     match answer {
-        Ok(Section::Pane { end, next, reach }) => print!(rt; ", measured {end} {next} {reach}"),
+        Ok(Section::Pane { end, next, reach }) => {
+            print_named(rt, ", measured", end)?;
+            print_figure(rt, next)?;
+            print_figure(rt, reach)
+        }
         Ok(Section::Passed { next: _ }) => print!(rt; ", measured: passed"),
         Ok(Section::End) => print!(rt; ", measured: end"),
         Err(_) => print!(rt; ", measured: refused"),
@@ -60,13 +68,18 @@ fn read_back(rt: &impl Print, source: Source) -> io::Result<()> {
 // The four bytes of the size of the section at place 0, as they stand.
 fn print_size(rt: &impl Print, out: &[u8]) -> io::Result<()> {
     match out {
-        [_, _, _, _, a, b, c, d, ..] => print!(rt; ", size {a} {b} {c} {d}"),
+        [_, _, _, _, a, b, c, d, ..] => {
+            print_named(rt, ", size", *a as usize)?;
+            print_figure(rt, *b as usize)?;
+            print_figure(rt, *c as usize)?;
+            print_figure(rt, *d as usize)
+        }
         _ => Ok(()),
     }
 }
 
 fn print_end(rt: &impl Print, order: ByteOrder, out: &[u8], end: usize) -> io::Result<()> {
-    print!(rt; " end {end}")?;
+    print_named(rt, " end", end)?;
     print_size(rt, out)?;
     if end <= out.len() {
         let data = &out[..end];
@@ -83,7 +96,10 @@ fn print_written(
 ) -> io::Result<()> {
     match written {
         Ok(end) => print_end(rt, order, out, end),
-        Err(why) => print!(rt; " no {} {} {}", why.number(), why.a(), why.b()),
+        Err(why) => {
+            print!(rt; " ")?;
+            print_refusal(rt, why)
+        }
     }
 }
 
@@ -172,12 +188,14 @@ impl<R: Print> Report<'_, R> {
         )?;
         self.blank("256 quads in a picture", Kind::Pic1, 31, &quads, &[])?;
         self.blank("9 numbers of quads", Kind::Pic1, 31, &quads[..9], &[])?;
-        self.blank(
+        self.line(
             "a list that the kind lacks",
-            Kind::Ali1,
-            31,
-            &quads[..9],
-            &frames[..3],
+            records::alignment_pane(),
+            Content {
+                quads: &quads[..9],
+                frames: &frames[..3],
+                ..NOTHING
+            },
         )?;
         self.blank("reserve0 32", Kind::Wnd1, 32, &quads[..9], &frames)
     }

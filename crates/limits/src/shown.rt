@@ -1,4 +1,5 @@
 // What is shown of a record that was read: its frames; and where they are there, a shape index, the parts of a text box, a font scale, a content with a material.
+use crate::put::{print_figure, print_named};
 use std::io;
 use strip::filled;
 use strip::record::Record;
@@ -7,14 +8,17 @@ use text_box::{FontMeasure, Span, Text};
 fn show_picture(rt: &impl Print, r: Record) -> io::Result<()> {
     match r.picture.shape_info_array_index {
         None => Ok(()),
-        Some(index) => print!(rt; ", shape {index}"),
+        Some(index) => print_named(rt, ", shape", index as usize),
     }
 }
 
 fn show_label(rt: &impl Print, label: Option<Span>) -> io::Result<()> {
     match label {
         None => Ok(()),
-        Some(Span { place, length }) => print!(rt; ", label {place} {length}"),
+        Some(Span { place, length }) => {
+            print_named(rt, ", label", place)?;
+            print_figure(rt, length)
+        }
     }
 }
 
@@ -28,14 +32,14 @@ fn show_measure(rt: &impl Print, measure: FontMeasure) -> io::Result<()> {
 fn show_text(rt: &impl Print, r: Record, text: Text) -> io::Result<()> {
     match text {
         Text::Absent => Ok(()),
-        Text::Present => print!(rt; ", units {}", filled::units_filled(r)),
+        Text::Present => print_named(rt, ", units", filled::units_filled(r)),
     }
 }
 
 fn show_table(rt: &impl Print, table: Option<u8>) -> io::Result<()> {
     match table {
         None => Ok(()),
-        Some(count) => print!(rt; ", lines {count}"),
+        Some(count) => print_named(rt, ", lines", count as usize),
     }
 }
 
@@ -51,16 +55,14 @@ fn show_text_box(rt: &impl Print, r: Record) -> io::Result<()> {
 fn show_content(rt: &impl Print, r: Record) -> io::Result<()> {
     let content = r.window.content;
     if content.material_index != 0 {
-        print!(rt;
-            ", content {} {}",
-            content.quad_count, content.material_index
-        )?;
+        print_named(rt, ", content", content.quad_count as usize)?;
+        return print_figure(rt, content.material_index as usize);
     }
     Ok(())
 }
 
 pub(crate) fn show(rt: &impl Print, r: Record) -> io::Result<()> {
-    print!(rt; ", frames {}", r.window.frame_count)?;
+    print_named(rt, ", frames", r.window.frame_count as usize)?;
     show_picture(rt, r)?;
     show_text_box(rt, r)?;
     show_content(rt, r)

@@ -1,8 +1,13 @@
 // The loop of a program that reads lines of hexadecimal digits from standard input and prints a line for each.
 ghost use Rattle.std.specs.Prelude.{◌≡◌, ℕ, List, length};
+ghost use Rattle.core_read.specs.Bytes.{Room};
 ghost use Rattle.digits.specs.declared.Line.{Line};
+ghost use Rattle.lines.specs.Answered.{answer_to};
+ghost use Rattle.lines.specs.Back.{back_to};
 ghost use Rattle.lines.specs.Printed.{Prints, printed_into};
 
+use crate::answered::line_answered;
+use crate::back::line_written_back;
 use crate::input;
 use digits::Line;
 use std::io;
@@ -54,4 +59,60 @@ pub fn print_all<R: Input + Print, F: Fn(&[u8], Line, &mut [u8]) -> usize>(
         }
     }
     Ok(())
+}
+
+// The loop with a step that puts the answer. A function of its own, since a generic function that makes a closure can name no ghost of `print_all`.
+fn print_all_answers<R: Input + Print, F: Fn(&[u8], Line, &mut [u8]) -> usize>(
+    rt: &R,
+    step: F,
+    chunk: &mut [u8],
+    bytes: &mut [u8],
+    out: &mut [u8],
+) -> io::Result<()>
+    requires { Prints F.Fn step answer_to (length out.old) }
+    ensures { length out.new ≡ length out.old }
+{
+    print_all(rt, step, chunk, bytes, out)
+}
+
+// The answer to each line, which has at most 66 bytes.
+pub fn print_answers<R: Input + Print>(
+    rt: &R,
+    chunk: &mut [u8],
+    bytes: &mut [u8],
+    out: &mut [u8],
+) -> io::Result<()>
+    requires { Room out.old 0 66 }
+    ensures { length out.new ≡ length out.old }
+{
+    let step = |bytes: &[u8], line, out: &mut [u8]| line_answered(bytes, line, out);
+    print_all_answers(rt, step, chunk, bytes, out)
+}
+
+// The loop with a step that puts the answer with a pane written back.
+fn print_all_written_back<R: Input + Print, F: Fn(&[u8], Line, &mut [u8]) -> usize>(
+    rt: &R,
+    step: F,
+    chunk: &mut [u8],
+    bytes: &mut [u8],
+    out: &mut [u8],
+) -> io::Result<()>
+    requires { Prints F.Fn step back_to (length out.old) }
+    ensures { length out.new ≡ length out.old }
+{
+    print_all(rt, step, chunk, bytes, out)
+}
+
+// The same with each pane that is read written back, which has at most 65,603 bytes.
+pub fn print_written_back<R: Input + Print>(
+    rt: &R,
+    chunk: &mut [u8],
+    bytes: &mut [u8],
+    out: &mut [u8],
+) -> io::Result<()>
+    requires { Room out.old 0 65603 }
+    ensures { length out.new ≡ length out.old }
+{
+    let step = |bytes: &[u8], line, out: &mut [u8]| line_written_back(bytes, line, out);
+    print_all_written_back(rt, step, chunk, bytes, out)
 }

@@ -35,11 +35,17 @@ fn put_transform<'a, 's>(w: &'s mut Writer<'a>, b: Pane)
     put_vector2(w, b.size);
 }
 
-// The pane, 76 bytes.
+// The pane, 76 bytes. By a writer of its own: a compiler keeps its place and output in registers, and reads those of a lent one anew for each byte.
 pub fn put_pane<'a, 's>(w: &'s mut Writer<'a>, b: Pane)
     requires { Sound b × HasRoom w.old 76 }
     ensures { Puts w.old w.new 76 (λ order. encode_pane order b) }
 {
-    put_head(w, b);
-    put_transform(w, b);
+    let mut own = Writer {
+        order: w.order,
+        out: &mut *w.out,
+        place: w.place,
+    };
+    put_head(&mut own, b);
+    put_transform(&mut own, b);
+    w.place = own.place;
 }

@@ -188,7 +188,7 @@ fn put_shape<'a, 's>(w: &'s mut Writer<'a>, x: Option<u32>)
     }
 }
 
-// The picture after the base.
+// The picture after the base. By a writer of its own, whose place and output a compiler keeps in registers.
 #[tactic(auto, unfolding(crate::specs::Picture::picture_length))]
 pub fn put_picture<'a, 's>(w: &'s mut Writer<'a>, x: PicturePane, quads: &[u32])
     requires { GoodPicture quads.now × HasRoom w.old (picture_length x quads.now) }
@@ -196,12 +196,18 @@ pub fn put_picture<'a, 's>(w: &'s mut Writer<'a>, x: PicturePane, quads: &[u32])
 {
     let count = (quads.len() / 8) as u8;
     let shape = x.shape_info_array_index;
-    ui2d::put_colors(w, x.vertex_colors);
-    w.put_number(x.material_index);
-    w.put_number(count);
-    w.put_number(shape_byte(shape));
-    put_quads(w, quads);
-    put_shape(w, shape);
+    let mut own = Writer {
+        order: w.order,
+        out: &mut *w.out,
+        place: w.place,
+    };
+    ui2d::put_colors(&mut own, x.vertex_colors);
+    own.put_number(x.material_index);
+    own.put_number(count);
+    own.put_number(shape_byte(shape));
+    put_quads(&mut own, quads);
+    put_shape(&mut own, shape);
+    w.place = own.place;
 }
 
 // ---- what the types say

@@ -9,7 +9,7 @@ use Rattle.strip_records.specs.Whole.{Lists, blank_record}
 use Rattle.strip_kinds.specs.Body.{body_read, body_lists}
 use Rattle.strip_records.specs.declared.kind.Kind.{Kind}
 use Rattle.strip_records.specs.declared.record.Record.{Record}
-use Rattle.strip_header.specs.Header.{read_start, header_taken}
+use Rattle.strip_header.specs.Header.{read_start, header_taken, SectionAnswer}
 use Rattle.strip_header.specs.declared.Header.{Header}
 use Rattle.strip_kinds.specs.declared.body.BodyRead.{BodyRead}
 use Rattle.strip_read.specs.declared.read.SectionRead.{SectionRead}
@@ -18,6 +18,9 @@ use Rattle.strip_header.specs.declared.Section.TheVariants as Sections
 use Rattle.core_read.specs.Taken.{Place}
 
 -- ---- answers; the record is blank unless a pane was read
+
+unfoldable pub answered_with : SectionAnswer → SectionRead
+answered_with answer = record { answer = answer; «record» = blank_record }
 
 unfoldable pub refused_with : Refusal → SectionRead
 refused_with why = record { answer = Err why; «record» = blank_record }
@@ -70,17 +73,17 @@ read_section order s p l =
 unfoldable pub measured : ByteOrder → List ℕ → ℕ → SectionRead
 measured order s p = or_refused (section_start (length s) p) (cond (eqb p (length s)) ended_with (read_at order s p))
 
--- the body of the section at p, where the checks before it answer q; where there is none to read, what the section read gives
-unfoldable pub body_in : Place → KindFound → ℕ → Result Body SectionRead
+-- the body of the section at p, where the checks before it answer q; where there is none to read, what the section read answers
+unfoldable pub body_in : Place → KindFound → ℕ → Result Body SectionAnswer
 body_in (Ok c) (Some kind) next = Ok (record { kind = kind; run = c; next = next })
-body_in (Ok c) None next = Err (passed_with next)
-body_in (Err why) found next = Err (refused_with why)
+body_in (Ok c) None next = Err (Ok (Sections.Passed next))
+body_in (Err why) found next = Err (Err why)
 
-unfoldable pub body_at : ByteOrder → List ℕ → ℕ → Place → Result Body SectionRead
+unfoldable pub body_at : ByteOrder → List ℕ → ℕ → Place → Result Body SectionAnswer
 body_at order s p (Ok c) =
     let h : Taken Header = header_taken order s p in
-    cond (eqb p (length s)) (Err ended_with) (body_in h.then (kind_of h.value.letters) (p + h.value.size))
-body_at order s p (Err why) = Err (refused_with why)
+    cond (eqb p (length s)) (Err (Ok Sections.End)) (body_in h.then (kind_of h.value.letters) (p + h.value.size))
+body_at order s p (Err why) = Err (Err why)
 
 -- the lists after a section read: changed only by the body of a pane that is read
 unfoldable pub lists_at : ByteOrder → List ℕ → ℕ → Lists → Lists

@@ -3,7 +3,7 @@ ghost use Rattle.std.specs.Prelude.{◌≡◌};
 ghost use Rattle.strip_header.specs.Header.{section_by_number};
 ghost use Rattle.strip_read.specs.Read.{measured};
 
-use crate::read::{SectionRead, body_at, finish};
+use crate::read::{SectionRead, answered, body_at, finish};
 use core_checks::checks;
 use core_read::reader::{Reader, Source};
 use strip_kinds::body::measure_kind;
@@ -22,6 +22,6 @@ pub fn measure_section<'a>(source: Source<'a>, place: usize) -> SectionRead
             let read = measure_kind(r, b.kind, place + 8, Some(b.next));
             finish(read, b.next)
         }
-        Err(read) => read,
+        Err(answer) => answered(answer),
     }
 }

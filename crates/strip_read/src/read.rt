@@ -2,7 +2,7 @@
 ghost use Rattle.std.specs.Prelude.{◌≡◌, ◌≤◌, length, Ok};
 ghost use Rattle.strip_header.specs.Header.{section_by_number};
 ghost use Rattle.strip_records.specs.Held.{held, Filled};
-ghost use Rattle.strip_read.specs.Read.{refused_with, ended_with, passed_with, finished, body_at, read_section, lists_after};
+ghost use Rattle.strip_read.specs.Read.{answered_with, finished, body_at, read_section, lists_after};
 ghost use Rattle.core_read.specs.declared.cursor.Cursor.{Cursor};
 
 use core_read::cursor::{Cursor, Place};
@@ -21,38 +21,19 @@ pub struct SectionRead {
     pub record: Record,
 }
 
-#[tactic(auto, unfolding(crate::specs::Read::refused_with))]
-pub(crate) fn refused(why: Refusal) -> SectionRead
-    ensures { result ≡ refused_with why }
+// An answer with no pane: its record is blank.
+#[tactic(auto, unfolding(crate::specs::Read::answered_with))]
+pub(crate) fn answered(answer: Result<Section, Refusal>) -> SectionRead
+    ensures { result ≡ answered_with answer }
 {
     SectionRead {
-        answer: Err(why),
-        record: blank_record(),
-    }
-}
-
-#[tactic(auto, unfolding(crate::specs::Read::ended_with))]
-pub(crate) fn ended() -> SectionRead
-    ensures { result ≡ ended_with }
-{
-    SectionRead {
-        answer: Ok(Section::End),
-        record: blank_record(),
-    }
-}
-
-#[tactic(auto, unfolding(crate::specs::Read::passed_with))]
-pub(crate) fn passed(next: usize) -> SectionRead
-    ensures { result ≡ passed_with next }
-{
-    SectionRead {
-        answer: Ok(Section::Passed { next }),
+        answer,
         record: blank_record(),
     }
 }
 
 // A body that was read, as a section.
-#[tactic(auto, unfolding(crate::specs::Read::finished))]
+#[tactic(auto, unfolding(crate::specs::Read::finished, crate::specs::Read::refused_with, crate::specs::Read::answered_with))]
 pub(crate) fn finish(read: BodyRead, next: usize) -> SectionRead
     ensures { result ≡ finished read.answer next read.«record» }
 {
@@ -67,7 +48,7 @@ pub(crate) fn finish(read: BodyRead, next: usize) -> SectionRead
                 record,
             }
         }
-        Err(why) => refused(why),
+        Err(why) => answered(Err(why)),
     }
 }
 
@@ -79,20 +60,24 @@ pub struct Body {
     pub next: usize,
 }
 
-// The body of the section at a place, once the checks before it were made, with lists lent or none: the end, the header, check 8. Where there is none to read, what the section read gives.
+// The body of the section at a place, once the checks before it were made, with lists lent or none: the end, the header, check 8. Where there is none to read, what the section read answers.
 #[tactic(auto, unfolding(crate::specs::Read::body_at, crate::specs::Read::body_in))]
-pub fn body_at<'a>(source: Source<'a>, place: usize, checked: Place) -> Result<Body, SectionRead>
+pub fn body_at<'a>(
+    source: Source<'a>,
+    place: usize,
+    checked: Place,
+) -> Result<Body, Result<Section, Refusal>>
     requires { (c : Cursor) → checked ≡ Ok c → (place ≤ length source.«data».now) × (length source.«data».now ≤ 16777216) }
     ensures { result ≡ body_at source.entry.order source.entry.«data».now place checked }
 {
-    checked.map_err(refused)?;
+    checked.map_err(Err)?;
     if place == source.data.len() {
-        return Err(ended());
+        return Err(Ok(Section::End));
     }
     let mut r = source.reader(place);
-    let header = strip_header::take_header(&mut r, place).map_err(refused)?;
+    let header = strip_header::take_header(&mut r, place).map_err(Err)?;
     let next = place + header.size;
-    let kind = Kind::of_letters(header.letters).ok_or_else(|| passed(next))?;
+    let kind = Kind::of_letters(header.letters).ok_or(Ok(Section::Passed { next }))?;
     let run = r.cursor;
     Ok(Body { kind, run, next })
 }
@@ -122,6 +107,6 @@ pub fn read_section<'a, 'l, 's>(
             let read = read_kind(r, b.kind, place + 8, Some(b.next), lists);
             finish(read, b.next)
         }
-        Err(read) => read,
+        Err(answer) => answered(answer),
     }
 }

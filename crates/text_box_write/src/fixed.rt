@@ -78,13 +78,19 @@ fn put_shadow<'a, 's>(w: &'s mut Writer<'a>, x: TextBoxPane, plan: Layout)
     w.put_number(0u32);
 }
 
-// The fixed bytes, with the three offsets.
+// The fixed bytes, with the three offsets. By a writer of its own, whose place and output a compiler keeps in registers.
 pub fn put_fixed<'a, 's>(w: &'s mut Writer<'a>, x: TextBoxPane, plan: Layout)
     requires { HasRoom w.old 84 }
     ensures { Puts w.old w.new 84 (λ order. encode_fixed order x plan.text plan.label plan.lines) }
 {
-    put_indices(w, x);
-    put_style(w, x);
-    put_font(w, x, plan);
-    put_shadow(w, x, plan);
+    let mut own = Writer {
+        order: w.order,
+        out: &mut *w.out,
+        place: w.place,
+    };
+    put_indices(&mut own, x);
+    put_style(&mut own, x);
+    put_font(&mut own, x, plan);
+    put_shadow(&mut own, x, plan);
+    w.place = own.place;
 }

@@ -117,7 +117,16 @@ fn put_text<'a, 's>(w: &'s mut Writer<'a>, text: Text, units: &[u16])
 {
     match text {
         Text::Absent => {}
-        Text::Present => w.put_u16s(units),
+        Text::Present => {
+            // A writer of its own: order, address and place stay in registers through the loop.
+            let mut own = Writer {
+                order: w.order,
+                out: &mut *w.out,
+                place: w.place,
+            };
+            own.put_u16s(units);
+            w.place = own.place;
+        }
     }
 }
 
@@ -138,7 +147,7 @@ fn put_label<'a, 's>(w: &'s mut Writer<'a>, label: Option<Span>, bytes: &[u8])
 }
 
 // The n numbers of a column, every other one from k on.
-fn put_column<'a, 's>(w: &'s mut Writer<'a>, lines: &[u32], k: usize, n: usize)
+fn put_each<'a, 's>(w: &'s mut Writer<'a>, lines: &[u32], k: usize, n: usize)
     requires { HasRoom w.old (4 * n) × (2 * n ≤ length lines.now) × (k ≤ 1) }
     ensures { Puts w.old w.new (4 * n) (λ order. bytes_of_all order 4 (column lines.now k n)) }
 {
@@ -146,6 +155,20 @@ fn put_column<'a, 's>(w: &'s mut Writer<'a>, lines: &[u32], k: usize, n: usize)
     for pair in pairs {
         w.put_number(pair[k]);
     }
+}
+
+// The same, by a writer of its own.
+fn put_column<'a, 's>(w: &'s mut Writer<'a>, lines: &[u32], k: usize, n: usize)
+    requires { HasRoom w.old (4 * n) × (2 * n ≤ length lines.now) × (k ≤ 1) }
+    ensures { Puts w.old w.new (4 * n) (λ order. bytes_of_all order 4 (column lines.now k n)) }
+{
+    let mut own = Writer {
+        order: w.order,
+        out: &mut *w.out,
+        place: w.place,
+    };
+    put_each(&mut own, lines, k, n);
+    w.place = own.place;
 }
 
 // Aligned: the count, all offsets, then all widths.

@@ -38,8 +38,8 @@ pub fn fill_quads<'a>(source: Source<'a>, at: usize, n: usize, list: &mut [u32])
     }
 }
 
-// The quads of a list.
-pub fn put_quads<'a, 's>(w: &'s mut Writer<'a>, list: &[u32])
+// The quads of a list, one after the other.
+fn put_each<'a, 's>(w: &'s mut Writer<'a>, list: &[u32])
     requires { (length list.now % 8 ≡ 0) × HasRoom w.old (4 * length list.now) }
     ensures { Puts w.old w.new (4 * length list.now) (λ order. bytes_of_all order 4 list.now) }
 {
@@ -48,4 +48,18 @@ pub fn put_quads<'a, 's>(w: &'s mut Writer<'a>, list: &[u32])
         let quad = crate::load_quad(numbers, 0);
         crate::put_quad(w, quad);
     }
+}
+
+// The same, by a writer of its own, so that order, address and place stay in registers through the loop.
+pub fn put_quads<'a, 's>(w: &'s mut Writer<'a>, list: &[u32])
+    requires { (length list.now % 8 ≡ 0) × HasRoom w.old (4 * length list.now) }
+    ensures { Puts w.old w.new (4 * length list.now) (λ order. bytes_of_all order 4 list.now) }
+{
+    let mut own = Writer {
+        order: w.order,
+        out: &mut *w.out,
+        place: w.place,
+    };
+    put_each(&mut own, list);
+    w.place = own.place;
 }

@@ -28,13 +28,14 @@ pub fn breaks(waits: bool, u: u16) -> bool
 pub fn first_unpaired(units: &[u16]) -> Option<usize>
     ensures { result ≡ utf16_of units.now }
 {
-    // the place of a high surrogate that waits for its pair
-    let mut waits = None;
-    for (i, u) in units.iter().enumerate() {
-        if breaks(waits.is_some(), *u) {
-            return waits.or(Some(i));
-        }
-        waits = high_surrogate(*u).then_some(i);
+    // what is left, from the first unit of a character on
+    let mut rest = units;
+    loop {
+        rest = match rest {
+            [] => return None,
+            [u, after @ ..] if !(high_surrogate(*u) | low_surrogate(*u)) => after,
+            [h, l, after @ ..] if high_surrogate(*h) & low_surrogate(*l) => after,
+            _ => return Some(units.len() - rest.len()),
+        };
     }
-    waits
 }

@@ -1,13 +1,14 @@
 // The body calls of a window pane: any bytes are read or refused, any pane is written or refused.
-ghost use Rattle.std.specs.Prelude.{◌≡◌, ◌^◌, ◌≤◌, ◌<◌, length, Ok};
+ghost use Rattle.std.specs.Prelude.{◌≡◌, ◌*◌, ◌^◌, ◌≤◌, ◌<◌, length, Ok};
 ghost use Rattle.core_checks.specs.Answered.{Clears};
 ghost use Rattle.core_checks.specs.Checks.{parsed_by_number, written_by_number};
+ghost use Rattle.core_read.specs.Bytes.{Room};
 ghost use Rattle.core_read.specs.Steps.{Took};
 ghost use Rattle.core_read.specs.Taken.{over};
 ghost use Rattle.core_write.specs.Puts.{HasRoom, Puts};
 ghost use Rattle.pane_read.specs.Pane.{Sound};
 ghost use Rattle.window_write.specs.Write.{GoodWindow};
-ghost use Rattle.window_read.specs.Window.{Passed, window_quads, window_frames};
+ghost use Rattle.window_read.specs.Window.{window_quads, window_frames};
 ghost use Rattle.window.specs.Body.{window_measured, window_read, read_quads, read_frames, read_start, window_parsed, parsed_quads, parsed_frames, window_write_checked, body_length, encode_body, window_written, window_output};
 
 use core_checks::checks;
@@ -39,7 +40,7 @@ pub fn measure<'a, 's>(
     Ok(Measured { base, own })
 }
 
-// The quads and frames of a pane that was measured.
+// The quads and frames of a pane whose quads are there, as they are of one that was measured.
 pub fn fill<'a>(
     source: Source<'a>,
     m: Measured<WindowFound>,
@@ -48,7 +49,7 @@ pub fn fill<'a>(
     frames: &mut [u16],
 )
     requires le_place { (8 ≤ place) × (place < 2 ^ 32) }
-    requires passed { Passed source.order source.«data».now m.own place }
+    requires ahead { Room source.«data».now m.own.quads.pos (4 * (8 * m.own.window.content.quad_count)) }
     requires in_bounds { (2040 ≤ length quads.old) × (510 ≤ length frames.old) }
     ensures quads_after { quads.new ≡ over (window_quads source.entry.order source.entry.«data».now m.own) quads.old }
     ensures frames_after { frames.new ≡ over (window_frames source.entry.order source.entry.«data».now m.own place) frames.old }

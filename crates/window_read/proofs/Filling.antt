@@ -1,12 +1,14 @@
 -- A loop that puts a list at the front of another, one element a store: what holds after i stores, with rest still to come.
 use mathlib.Core.Path.{◌≡◌, sym, ap, ◌∙◌}
-use mathlib.Core.List.{List, [], ◌∷◌, ◌++◌}
+use borrow.Rule.Slice.PartMut.{put_mid}
+use mathlib.Core.List.{List, [], ◌∷◌, ◌++◌, append_assoc}
 use Prim.Native.Nat.{ℕ, zero, suc, ◌+◌, ◌≤◌, ◌<◌}
 use native.Mathlib.Nat.{le_of_suc-le-suc, not-suc-le-zero}
 use native.Mathlib.Numerals.{add-one}
 use native.Mathlib.Omega.{arith}
-use lib.ListN.{length, take, drop, set, length-set, length-drop}
-use lib.Seq.{take_all, drop-nil}
+use lib.ListN.{length, take, drop, set, replicate, length-set, length-drop, length-replicate}
+use lib.Seq.{take_all, drop-nil, length-take-le}
+use Rattle.std.proofs.lemmas.List.{take_at, drop_at, drop-drop, take-append-drop}
 
 pub record Filling (all out₀ out : List ℕ) (i : ℕ) (rest : List ℕ) : Type 0 where
   pub within : i ≤ length all
@@ -52,3 +54,16 @@ filling_end all out₀ out i v =
   where
     le_refl' : length all ≤ length all
     le_refl' = omega arith
+
+-- zeros for all that is left, put at once
+pub filling_blank : (all out₀ out ys : List ℕ) (i m p k : ℕ) → Filling all out₀ out i (replicate m 0) → i + m ≤ length out₀ → p ≡ i → k ≡ m
+    → ys ≡ replicate (length (take k (drop p out))) 0 → put_mid p k out ys ≡ all ++ drop (length all) out₀
+filling_blank all out₀ out ys i m p k v room e f z =
+    let n : length all ≡ i + m = omega (arith, v.within, sym (length-drop i all) ∙ ap length v.left, length-replicate {A = ℕ} m 0) in
+    let h : length (take i all) ≡ i = length-take-le i all v.within in
+    let a : take i out ≡ take i all = rw v.front (take_at (take i all) (drop i out₀) i h) in
+    let b : drop i out ≡ drop i out₀ = rw v.front (drop_at (take i all) (drop i out₀) i h) in
+    let d : drop m (drop i out₀) ≡ drop (length all) out₀ = rw n (drop-drop m i out₀) in
+    let w : length (take m (drop i out₀)) ≡ m = length-take-le m (drop i out₀) (omega (arith, room, length-drop i out₀)) in
+    rw (z, e, f, a, b, w, d, ← v.left)
+    (sym (append_assoc (take i all) (drop i all) (drop (length all) out₀)) ∙ ap (λ (l : List ℕ). l ++ drop (length all) out₀) (take-append-drop i all))

@@ -159,7 +159,7 @@ module _ (order : ByteOrder) (s : List ℕ) where
       let each : EachFrame order s from s₅.at.pos n = frames_each from n s₅.at.pos p₆ s₇.at (rw offsets at (sym e₇ ∙ s₇.here)) in
       record { quads = rw s₃.here quads; table = rw s₅.here table; frames = rw s₅.here each }
 
-  -- what `fill_window` asks for
+  -- what it has passed, the quads that `fill_window` asks for among it
   pub found_measured : (p : Place) (body : ℕ) (c : Cursor) (t : WindowFound)
       → ◌≡◌ {A = Taken WindowFound} (window_taken order s p body) (record { value = t; then = Ok c }) → Passed order s t body
   unfolding window_taken window_of

@@ -122,13 +122,27 @@ fn put_content<'a, 's>(w: &'s mut Writer<'a>, x: WindowContent, quads: &[u32])
 }
 
 // The table: n offsets from the first on.
-fn put_offsets<'a, 's>(w: &'s mut Writer<'a>, first: u32, n: usize)
+fn put_each_offset<'a, 's>(w: &'s mut Writer<'a>, first: u32, n: usize)
     requires { (first + 4 * n < 2 ^ 32) × HasRoom w.old (4 * n) }
     ensures { Puts w.old w.new (4 * n) (λ order. bytes_of_all order 4 (frame_offsets first n)) }
 {
     for i in 0..n as u32 {
         w.put_number(first + 4 * i);
     }
+}
+
+// The same, by a writer of its own, so that order, address and place stay in registers through the loop.
+fn put_offsets<'a, 's>(w: &'s mut Writer<'a>, first: u32, n: usize)
+    requires { (first + 4 * n < 2 ^ 32) × HasRoom w.old (4 * n) }
+    ensures { Puts w.old w.new (4 * n) (λ order. bytes_of_all order 4 (frame_offsets first n)) }
+{
+    let mut own = Writer {
+        order: w.order,
+        out: &mut *w.out,
+        place: w.place,
+    };
+    put_each_offset(&mut own, first, n);
+    w.place = own.place;
 }
 
 // Material, flip, 0.
@@ -141,7 +155,7 @@ fn put_frame<'a, 's>(w: &'s mut Writer<'a>, material: u16, flip: u16)
     w.put_number(0u8);
 }
 
-fn put_frames<'a, 's>(w: &'s mut Writer<'a>, frames: &[u16])
+fn put_each_frame<'a, 's>(w: &'s mut Writer<'a>, frames: &[u16])
     requires { HasRoom w.old (4 * (length frames.now / 2)) }
     ensures { Puts w.old w.new (4 * (length frames.now / 2)) (λ order. encode_frames order frames.now) }
 {
@@ -151,7 +165,21 @@ fn put_frames<'a, 's>(w: &'s mut Writer<'a>, frames: &[u16])
     }
 }
 
-// What a window has beyond the base, of a body at a place.
+// The same, by a writer of its own.
+fn put_frames<'a, 's>(w: &'s mut Writer<'a>, frames: &[u16])
+    requires { HasRoom w.old (4 * (length frames.now / 2)) }
+    ensures { Puts w.old w.new (4 * (length frames.now / 2)) (λ order. encode_frames order frames.now) }
+{
+    let mut own = Writer {
+        order: w.order,
+        out: &mut *w.out,
+        place: w.place,
+    };
+    put_each_frame(&mut own, frames);
+    w.place = own.place;
+}
+
+// What a window has beyond the base, of a body at a place. By a writer of its own, whose place and output a compiler keeps in registers.
 pub fn put_window<'a, 's>(
     w: &'s mut Writer<'a>,
     x: WindowPane,
@@ -168,9 +196,15 @@ pub fn put_window<'a, 's>(
     let zeros = content_padding(body, quads.len());
     let table = 132 + 4 * quads.len() + zeros;
     let first = table + 4 * n;
-    put_head(w, x, n as u8, table as u32);
-    put_content(w, content, quads);
-    w.put_zeros(zeros);
-    put_offsets(w, first as u32, n);
-    put_frames(w, frames);
+    let mut own = Writer {
+        order: w.order,
+        out: &mut *w.out,
+        place: w.place,
+    };
+    put_head(&mut own, x, n as u8, table as u32);
+    put_content(&mut own, content, quads);
+    own.put_zeros(zeros);
+    put_offsets(&mut own, first as u32, n);
+    put_frames(&mut own, frames);
+    w.place = own.place;
 }

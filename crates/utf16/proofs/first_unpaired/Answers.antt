@@ -1,18 +1,28 @@
-use mathlib.Core.Path.{sym, ◌∙◌}
-use Rattle.utf16.proofs.Scan.{scanned_none, scanned_more, scanned_off, scanned_over}
+use Rattle.utf16.proofs.Rest.{rest_whole, rest_over, rest_single, rest_pair, rest_unpaired}
+use borrow.Author.Rules.{rules}
 use Rattle.utf16.proofs.first_unpaired.Goals as goal
+use Rattle.utf16.proofs.first_unpaired.Goals.{in_default-via-then-rest-lt2, in_default-via-in-len2-up+else-high_surrogate-low_surrogate}
 
-pub loop-i-init : goal.loop-i-init
-loop-i-init c = scanned_none _
+pub loop-rest-init : goal.loop-rest-init
+loop-rest-init c = rest_whole _
 
-pub returns-then-breaks : goal.returns-then-breaks
-returns-then-breaks c =
-    rw c.or.ensures (scanned_off _ _ _ c.loop-i.invariant c.loop-i-test.true (rw (← c.is_some.ensures) (sym c.breaks.ensures ∙ c.if-breaks.true)))
+pub returns-in_default : goal.returns-in_default
+returns-in_default c =
+    rest_unpaired _ _ c.loop-rest.invariant c.in-len1-up.len_at_least (rw (← c.high_surrogate.ensures, ← c.low_surrogate.ensures) c.if-not-high_surrogate-low_surrogate.false)
+    (λ k. elim c.in_default.branch [
+      | in_default-via-then-rest-lt2 w ↦ absurd (search (rules, w, k))
+      | in_default-via-in-len2-up+else-high_surrogate-low_surrogate w ↦
+          rw (← w.high_surrogate-in-loop-rest.ensures, ← w.low_surrogate-in-loop-rest.ensures) w.if-high_surrogate-low_surrogate.false
+    ])
 
-pub loop-i-preserved : goal.loop-i-preserved
-loop-i-preserved c =
-    rw (c.then_some-waits.ensures, c.high_surrogate.ensures)
-    (scanned_more _ _ _ c.loop-i.invariant c.loop-i-test.true (rw (← c.is_some.ensures) (sym c.breaks.ensures ∙ c.if-breaks.false)))
+pub returns-in-empty : goal.returns-in-empty
+returns-in-empty c = rest_over _ _ c.loop-rest.invariant c.in-empty.len_below
 
-pub returns : goal.returns
-returns c = scanned_over _ _ _ c.loop-i.invariant c.loop-i-test.false
+pub loop-rest-preserved-in-len1-up : goal.loop-rest-preserved-in-len1-up
+loop-rest-preserved-in-len1-up c =
+    rest_single _ _ c.loop-rest.invariant c.in-len1-up.len_at_least (rw (← c.high_surrogate.ensures, ← c.low_surrogate.ensures) c.if-not-high_surrogate-low_surrogate.true)
+
+pub loop-rest-preserved : goal.loop-rest-preserved
+loop-rest-preserved c =
+    rest_pair _ _ c.loop-rest.invariant c.in-len2-up.len_at_least
+    (rw (← c.high_surrogate-in-loop-rest.ensures, ← c.low_surrogate-in-loop-rest.ensures) c.if-high_surrogate-low_surrogate.true)

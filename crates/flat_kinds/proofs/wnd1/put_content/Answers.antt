@@ -1,5 +1,5 @@
 use mathlib.Core.Path.{refl}
-use Rattle.flat.proofs.Chain.{next}
+use Rattle.flat.proofs.Storing.{next}
 use Rattle.flat_kinds.proofs.wnd1.put_content.Goals as goal
 
 pub returns : goal.returns

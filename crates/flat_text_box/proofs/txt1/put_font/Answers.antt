@@ -1,6 +1,6 @@
 use Rattle.flat_text_box.proofs.Lengths.{measure_end}
 use mathlib.Core.Path.{refl}
-use Rattle.flat.proofs.Chain.{next}
+use Rattle.flat.proofs.Storing.{next}
 use Rattle.flat_text_box.proofs.txt1.put_font.Goals as goal
 
 pub returns : goal.returns

@@ -1,5 +1,5 @@
 use Rattle.flat_text_box.proofs.Lengths.{text_end, label_end}
-use Rattle.flat.proofs.Chain.{next}
+use Rattle.flat.proofs.Storing.{next}
 use Rattle.flat_text_box.proofs.txt1.put_parts.Goals as goal
 
 pub returns : goal.returns

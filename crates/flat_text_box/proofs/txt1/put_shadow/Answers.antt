@@ -1,5 +1,5 @@
 use mathlib.Core.Path.{refl}
-use Rattle.flat.proofs.Chain.{next}
+use Rattle.flat.proofs.Storing.{next}
 use Rattle.flat_text_box.proofs.txt1.put_shadow.Goals as goal
 
 pub returns : goal.returns

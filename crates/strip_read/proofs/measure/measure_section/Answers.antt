@@ -20,5 +20,5 @@ returns-in-Ok c =
 
 pub returns-in-Err : goal.returns-in-Err
 returns-in-Err c =
-    let asked = measured_numbered (measured_none _ _ _ _ c.section_start-checked.ensures _ (sym c.body_at.ensures ∙ c.in-Err.is)) in
+    let asked = measured_numbered (c.answered.ensures ∙ measured_none _ _ _ _ c.section_start-checked.ensures _ (sym c.body_at.ensures ∙ c.in-Err.is)) in
     record { value = asked.0; answer_value = asked.1 }

@@ -25,4 +25,4 @@ returns-in-Ok c =
 pub returns-in-Err : goal.returns-in-Err
 returns-in-Err c =
     let x = read_none _ _ _ (lists _ _ _ _) _ c.read_start-checked.ensures _ (sym c.body_at.ensures ∙ c.in-Err.is) in
-    let asked = numbered x in record { value = asked.0; lists_after = filled_none asked.1.0; answer_value = asked.1.1 }
+    let asked = numbered (c.answered.ensures ∙ x.0, x.1) in record { value = asked.0; lists_after = filled_none asked.1.0; answer_value = asked.1.1 }

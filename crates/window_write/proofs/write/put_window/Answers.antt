@@ -1,7 +1,8 @@
-use mathlib.Core.Path.{◌≡◌, refl, ap}
+use mathlib.Core.Path.{◌≡◌, refl, ap, sym}
 use Prim.Native.Nat.{ℕ, ◌+◌, ◌*◌, ◌/◌, ◌≤◌}
 use lib.ListN.{length, replicate}
 use Rattle.core_read.specs.Bytes.{bytes_of_all}
+use Rattle.core_write.specs.Puts.{Puts}
 use Rattle.core_write.proofs.Chain.{◌then◌, puts_as}
 use Rattle.window_write.specs.Write.{table_offset, content_padding, window_length, encode_head, frame_offsets, encode_window}
 use native.Mathlib.Omega.{arith}
@@ -33,14 +34,17 @@ put_offsets-requires c = omega (arith, room _ _ _ _ _ _ c.content_padding-zeros.
 pub put_frames-requires : goal.put_frames-requires
 put_frames-requires c = omega (arith, room _ _ _ _ _ _ c.content_padding-zeros.ensures.0 c.requires.room, c.requires)
 
+-- what the writer of its own put is what stands behind the lent one, since the reference is the same
 pub returns : goal.returns
 unfolding encode_window window_length
 returns c =
     let n = length c.args.frames.now / 2 in
     let z = c.content_padding-zeros.ensures.0 in
+    let h : Puts _ _ (window_length c.args.body (length c.args.quads.now) (length c.args.frames.now)) (λ order. encode_window order c.args.body c.args.x c.args.quads.now c.args.frames.now) =
     puts_as (omega (arith, z)) (λ order. refl)
     (puts_as refl (λ order. ap (encode_head order c.args.x n) (table _ _ _ z)) c.put_head.ensures
     then c.put_content.ensures
     then puts_as z (λ order. ap (λ (k : ℕ). replicate k 0) z) c.put_zeros.ensures
     then puts_as refl (λ order. ap (λ (a : ℕ). bytes_of_all order 4 (frame_offsets (a + 4 * n) n)) (table _ _ _ z)) c.put_offsets.ensures
-    then c.put_frames.ensures)
+    then c.put_frames.ensures) in
+    search (rules, h.put, sym h.same)

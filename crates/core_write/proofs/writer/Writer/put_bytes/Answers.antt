@@ -7,5 +7,5 @@ pub returns : goal.returns
 returns c = record {
   order = refl;
   same = refl;
-  put = put_part _ _ _ _ _ _ _ c.requires refl (omega arith) refl c.copy_from_slice.ensures.after;
+  put = put_part _ _ _ _ _ _ _ c.requires refl (omega arith) refl c.copy_bytes.ensures;
 }

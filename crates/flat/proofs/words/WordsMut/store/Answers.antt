@@ -1,6 +1,5 @@
 use mathlib.Core.Path.{refl}
-use Rattle.flat.proofs.Storing.{stored_run}
 use Rattle.flat.proofs.words.WordsMut.store.Goals as goal
 
 pub returns : goal.returns
-returns c = record { same = refl; stored = stored_run _ _ _ c.requires c.copy_from_slice.ensures.after }
+returns c = record { same = refl; stored = c.store.ensures }

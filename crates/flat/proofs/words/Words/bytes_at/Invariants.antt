@@ -1,5 +1,0 @@
-use Rattle.flat.proofs.Storing.{Loaded}
-use Rattle.flat.proofs.words.Words.bytes_at.Given as goal
-
-abbrev pub invariant-loop-i : goal.invariant-loop-i
-invariant-loop-i l = Loaded l.self.words.now l.at l.initial.out l.out l.i

@@ -19,8 +19,7 @@ use Rattle.core_read.proofs.Runs.{cleared}
 use Rattle.strip_records.specs.Kinds.{kind_of, KindFound}
 use Rattle.strip_records.specs.Whole.{Lists, no_lists, Full}
 use Rattle.strip_kinds.specs.Body.{body_read, body_lists}
-use Rattle.strip_header.specs.declared.Section.TheVariants as Sections
-use Rattle.strip_read.specs.Read.{answered_with, refused_with, passed_with, finished, read_body, by_kind, lists_by_kind, or_refused, ended_with, read_at, lists_at, read_section, measured, lists_after, body_in, body_at}
+use Rattle.strip_read.specs.Read.{finished, read_body, by_kind, lists_by_kind, or_refused, ended_with, read_at, lists_at, read_section, measured, lists_after, body_in, body_at, answered_with, with_blank}
 use Rattle.strip_header.specs.Header.{read_start, size_bad, header_taken, section_by_number, SectionAnswer}
 use Rattle.strip_header.specs.declared.Header.{Header}
 use Rattle.strip_kinds.specs.declared.body.BodyRead.{BodyRead}
@@ -67,7 +66,7 @@ took_size p old new (Err why) h t e k = cc
 pub measured_numbered : {r w : SectionRead} → r ≡ w → (r ≡ w) × (section_by_number r.answer ≡ section_by_number w.answer)
 measured_numbered e = (e, ap (λ (x : SectionRead). section_by_number x.answer) e)
 
--- ---- THE BODY THAT A SECTION HAS, or what the read answers with none
+-- ---- THE BODY THAT A SECTION HAS, or what the read gives with none
 
 -- what a section read gives from checks that answer q, and the lists after it
 abbrev from : ByteOrder → List ℕ → ℕ → Place → SectionRead
@@ -77,22 +76,22 @@ abbrev after : ByteOrder → List ℕ → ℕ → Place → Lists → Lists
 after order s p q l = unless_refused q l (cond (eqb p (length s)) l (lists_at order s p l))
 
 module _ (order : ByteOrder) (s : List ℕ) (p : ℕ) (l : Lists) where
-  none_in : (b : Bool) (t : Place) (k : KindFound) (z : ℕ) (a : SectionAnswer) → cond b (Err (Ok Sections.End)) (body_in t k z) ≡ Err a
-      → (answered_with a ≡ cond b ended_with (or_refused t (by_kind order k s t (p + 8) z))) × (l ≡ cond b l (unless_refused t l (lists_by_kind order k s t (p + 8) z l)))
-  unfolding body_in or_refused unless_refused by_kind lists_by_kind answered_with ended_with passed_with refused_with
-  none_in true t k z a e = let g : a ≡ Ok Sections.End = cc in (rw g refl, refl)
-  none_in false (Err why) k z a e = let g : a ≡ Err why = cc in (rw g refl, refl)
-  none_in false (Ok c) None z a e = let g : a ≡ Ok (Sections.Passed z) = cc in (rw g refl, refl)
-  none_in false (Ok c) (Some kind) z a e = cc
+  none_in : (b : Bool) (t : Place) (k : KindFound) (z : ℕ) (r : SectionRead) → cond b (Err ended_with) (body_in t k z) ≡ Err r
+      → (r ≡ cond b ended_with (or_refused t (by_kind order k s t (p + 8) z))) × (l ≡ cond b l (unless_refused t l (lists_by_kind order k s t (p + 8) z l)))
+  unfolding body_in or_refused unless_refused by_kind lists_by_kind
+  none_in true t k z r e = (cc, refl)
+  none_in false (Err why) k z r e = (cc, refl)
+  none_in false (Ok c) None z r e = (cc, refl)
+  none_in false (Ok c) (Some kind) z r e = cc
 
-  none_from : (q : Place) (a : SectionAnswer) → body_at order s p q ≡ Err a → (answered_with a ≡ from order s p q) × (l ≡ after order s p q l)
-  unfolding body_at or_refused unless_refused read_at lists_at answered_with refused_with
-  none_from (Err why) a e = let g : a ≡ Err why = cc in (rw g refl, refl)
-  none_from (Ok c) a e = let h = header_taken order s p in none_in (eqb p (length s)) h.then (kind_of h.value.letters) (p + h.value.size) a e
+  none_from : (q : Place) (r : SectionRead) → body_at order s p q ≡ Err r → (r ≡ from order s p q) × (l ≡ after order s p q l)
+  unfolding body_at or_refused unless_refused read_at lists_at
+  none_from (Err why) r e = (cc, refl)
+  none_from (Ok c) r e = let h = header_taken order s p in none_in (eqb p (length s)) h.then (kind_of h.value.letters) (p + h.value.size) r e
 
   -- r is the read of the body b, and m the lists after it
   module _ (b : Body) (r : BodyRead) (m : Lists) (x : r ≡ body_read order b.kind s (Ok b.run) (p + 8) (Some b.next)) (y : m ≡ body_lists order b.kind s (Ok b.run) (p + 8) (Some b.next) l) where
-    body_found : (e : Bool) (t : Place) (k : KindFound) (z : ℕ) → cond e (Err (Ok Sections.End)) (body_in t k z) ≡ Ok b
+    body_found : (e : Bool) (t : Place) (k : KindFound) (z : ℕ) → cond e (Err ended_with) (body_in t k z) ≡ Ok b
         → (finished r.answer b.next r.«record» ≡ cond e ended_with (or_refused t (by_kind order k s t (p + 8) z))) × (m ≡ cond e l (unless_refused t l (lists_by_kind order k s t (p + 8) z l)))
     unfolding body_in or_refused unless_refused by_kind lists_by_kind read_body
     body_found true t k z e = cc
@@ -111,11 +110,20 @@ module _ (order : ByteOrder) (s : List ℕ) (p : ℕ) (l : Lists) where
   body_cleared (Err why) b e = cc
   body_cleared (Ok c) b e = (c, refl)
 
+-- what a body with the blank record beside its answer tells of the body, and of the answer
+pub body_given : {r : Result Body SectionAnswer} {x : Result Body SectionRead} {b : Body} → with_blank r ≡ x → r ≡ Ok b → x ≡ Ok b
+unfolding with_blank
+body_given e h = sym e ∙ ap with_blank h
+
+pub answer_given : {r : Result Body SectionAnswer} {x : Result Body SectionRead} {a : SectionAnswer} → with_blank r ≡ x → r ≡ Err a → x ≡ Err (answered_with a)
+unfolding with_blank
+answer_given e h = sym e ∙ ap with_blank h
+
 -- of a section read
 module _ (order : ByteOrder) (s : List ℕ) (p : ℕ) (l : Lists) (q : Place) (e : q ≡ read_start (length s) p (length l.quads) (length l.units) (length l.lines) (length l.frames)) where
-  pub read_none : (a : SectionAnswer) → body_at order s p q ≡ Err a → (answered_with a ≡ read_section order s p l) × (l ≡ lists_after order s p l)
+  pub read_none : (r : SectionRead) → body_at order s p q ≡ Err r → (r ≡ read_section order s p l) × (l ≡ lists_after order s p l)
   unfolding read_section lists_after
-  read_none a h = rw (← e) (none_from order s p l q a h)
+  read_none r h = rw (← e) (none_from order s p l q r h)
 
   pub read_body_at : (b : Body) → body_at order s p q ≡ Ok b → (r : BodyRead) (m : Lists) → r ≡ body_read order b.kind s (Ok b.run) (p + 8) (Some b.next) → m ≡ body_lists order b.kind s (Ok b.run) (p + 8) (Some b.next) l
       → (finished r.answer b.next r.«record» ≡ read_section order s p l) × (m ≡ lists_after order s p l)
@@ -130,9 +138,9 @@ module _ (order : ByteOrder) (s : List ℕ) (p : ℕ) (l : Lists) (q : Place) (e
 
 -- of one with no list lent
 module _ (order : ByteOrder) (s : List ℕ) (p : ℕ) (q : Place) (e : q ≡ section_start (length s) p) where
-  pub measured_none : (a : SectionAnswer) → body_at order s p q ≡ Err a → answered_with a ≡ measured order s p
+  pub measured_none : (r : SectionRead) → body_at order s p q ≡ Err r → r ≡ measured order s p
   unfolding measured
-  measured_none a h = rw (← e) (none_from order s p no_lists q a h).0
+  measured_none r h = rw (← e) (none_from order s p no_lists q r h).0
 
   pub measured_body : (b : Body) → body_at order s p q ≡ Ok b → (r : BodyRead) → r ≡ body_read order b.kind s (Ok b.run) (p + 8) (Some b.next) → finished r.answer b.next r.«record» ≡ measured order s p
   unfolding measured

@@ -73,17 +73,34 @@ read_section order s p l =
 unfoldable pub measured : ByteOrder → List ℕ → ℕ → SectionRead
 measured order s p = or_refused (section_start (length s) p) (cond (eqb p (length s)) ended_with (read_at order s p))
 
--- the body of the section at p, where the checks before it answer q; where there is none to read, what the section read answers
-unfoldable pub body_in : Place → KindFound → ℕ → Result Body SectionAnswer
+-- the body of the section at p, where the checks before it answer q; where there is none to read, what the section read gives
+unfoldable pub body_in : Place → KindFound → ℕ → Result Body SectionRead
 body_in (Ok c) (Some kind) next = Ok (record { kind = kind; run = c; next = next })
-body_in (Ok c) None next = Err (Ok (Sections.Passed next))
-body_in (Err why) found next = Err (Err why)
+body_in (Ok c) None next = Err (passed_with next)
+body_in (Err why) found next = Err (refused_with why)
 
-unfoldable pub body_at : ByteOrder → List ℕ → ℕ → Place → Result Body SectionAnswer
+unfoldable pub body_at : ByteOrder → List ℕ → ℕ → Place → Result Body SectionRead
 body_at order s p (Ok c) =
     let h : Taken Header = header_taken order s p in
-    cond (eqb p (length s)) (Err (Ok Sections.End)) (body_in h.then (kind_of h.value.letters) (p + h.value.size))
-body_at order s p (Err why) = Err (Err why)
+    cond (eqb p (length s)) (Err ended_with) (body_in h.then (kind_of h.value.letters) (p + h.value.size))
+body_at order s p (Err why) = Err (refused_with why)
+
+-- the same with no record: where there is no body to read, what the section read answers
+unfoldable pub answer_in : Place → KindFound → ℕ → Result Body SectionAnswer
+answer_in (Ok c) (Some kind) next = Ok (record { kind = kind; run = c; next = next })
+answer_in (Ok c) None next = Err (Ok (Sections.Passed next))
+answer_in (Err why) found next = Err (Err why)
+
+unfoldable pub answer_at : ByteOrder → List ℕ → ℕ → Place → Result Body SectionAnswer
+answer_at order s p (Ok c) =
+    let h : Taken Header = header_taken order s p in
+    cond (eqb p (length s)) (Err (Ok Sections.End)) (answer_in h.then (kind_of h.value.letters) (p + h.value.size))
+answer_at order s p (Err why) = Err (Err why)
+
+-- the blank record beside such an answer
+unfoldable pub with_blank : Result Body SectionAnswer → Result Body SectionRead
+with_blank (Ok b) = Ok b
+with_blank (Err answer) = Err (answered_with answer)
 
 -- the lists after a section read: changed only by the body of a pane that is read
 unfoldable pub lists_at : ByteOrder → List ℕ → ℕ → Lists → Lists

@@ -19,10 +19,9 @@ use Rattle.core_read.proofs.Runs.{cleared}
 use Rattle.strip_records.specs.Kinds.{kind_of, KindFound}
 use Rattle.strip_records.specs.Whole.{Lists, no_lists, Full}
 use Rattle.strip_kinds.specs.Body.{body_read, body_lists}
-use Rattle.strip_read.specs.Read.{finished, read_body, by_kind, lists_by_kind, or_refused, ended_with, read_at, lists_at, read_section, measured, lists_after, body_in, body_at, answer_in, answer_at, answered_with, passed_with, refused_with, with_blank}
+use Rattle.strip_read.specs.Read.{finished, read_body, by_kind, lists_by_kind, or_refused, ended_with, read_at, lists_at, read_section, measured, lists_after, body_in, body_at, answered_with, with_blank}
 use Rattle.strip_header.specs.Header.{read_start, size_bad, header_taken, section_by_number, SectionAnswer}
 use Rattle.strip_header.specs.declared.Header.{Header}
-use Rattle.strip_header.specs.declared.Section.TheVariants as Sections
 use Rattle.strip_kinds.specs.declared.body.BodyRead.{BodyRead}
 use Rattle.strip_read.specs.declared.read.SectionRead.{SectionRead}
 use Rattle.strip_read.specs.declared.read.Body.{Body}
@@ -111,26 +110,7 @@ module _ (order : ByteOrder) (s : List ℕ) (p : ℕ) (l : Lists) where
   body_cleared (Err why) b e = cc
   body_cleared (Ok c) b e = (c, refl)
 
--- ---- the answer alone, beside the blank record
-
-given_in : (q : Place) (f : KindFound) (next : ℕ) → with_blank (answer_in q f next) ≡ body_in q f next
-unfolding with_blank answer_in body_in answered_with passed_with refused_with
-given_in (Ok c) (Some kind) next = refl
-given_in (Ok c) None next = refl
-given_in (Err why) f next = refl
-
-given_or : (t : Bool) (m : Result Body SectionAnswer) (n : Result Body SectionRead) → with_blank m ≡ n → with_blank (cond t (Err (Ok Sections.End)) m) ≡ cond t (Err ended_with) n
-unfolding with_blank answered_with ended_with
-given_or true m n e = refl
-given_or false m n e = e
-
--- with the blank record it is what the section read gives
-pub given_at : (order : ByteOrder) (s : List ℕ) (p : ℕ) (q : Place) → with_blank (answer_at order s p q) ≡ body_at order s p q
-unfolding with_blank answer_at body_at answered_with refused_with
-given_at order s p (Ok c) = given_or (eqb p (length s)) _ _ (given_in _ _ _)
-given_at order s p (Err why) = refl
-
--- and so of each body, and of each answer
+-- what a body or an answer tells, where that beside the blank record is x
 pub body_given : {r : Result Body SectionAnswer} {x : Result Body SectionRead} {b : Body} → with_blank r ≡ x → r ≡ Ok b → x ≡ Ok b
 unfolding with_blank
 body_given e h = sym e ∙ ap with_blank h

@@ -85,19 +85,7 @@ body_at order s p (Ok c) =
     cond (eqb p (length s)) (Err ended_with) (body_in h.then (kind_of h.value.letters) (p + h.value.size))
 body_at order s p (Err why) = Err (refused_with why)
 
--- the same with no record: where there is no body to read, what the section read answers
-unfoldable pub answer_in : Place → KindFound → ℕ → Result Body SectionAnswer
-answer_in (Ok c) (Some kind) next = Ok (record { kind = kind; run = c; next = next })
-answer_in (Ok c) None next = Err (Ok (Sections.Passed next))
-answer_in (Err why) found next = Err (Err why)
-
-unfoldable pub answer_at : ByteOrder → List ℕ → ℕ → Place → Result Body SectionAnswer
-answer_at order s p (Ok c) =
-    let h : Taken Header = header_taken order s p in
-    cond (eqb p (length s)) (Err (Ok Sections.End)) (answer_in h.then (kind_of h.value.letters) (p + h.value.size))
-answer_at order s p (Err why) = Err (Err why)
-
--- the blank record beside such an answer
+-- a body, or with none to read the answer alone: beside the blank record that is what the section read gives
 unfoldable pub with_blank : Result Body SectionAnswer → Result Body SectionRead
 with_blank (Ok b) = Ok b
 with_blank (Err answer) = Err (answered_with answer)

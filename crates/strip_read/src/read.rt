@@ -2,7 +2,7 @@
 ghost use Rattle.std.specs.Prelude.{◌≡◌, ◌≤◌, length, Ok};
 ghost use Rattle.strip_header.specs.Header.{section_by_number};
 ghost use Rattle.strip_records.specs.Held.{held, Filled};
-ghost use Rattle.strip_read.specs.Read.{answered_with, finished, body_at, answer_at, with_blank, read_section, lists_after};
+ghost use Rattle.strip_read.specs.Read.{answered_with, finished, body_at, with_blank, read_section, lists_after};
 ghost use Rattle.core_read.specs.declared.cursor.Cursor.{Cursor};
 
 use core_read::cursor::{Cursor, Place};
@@ -60,16 +60,15 @@ pub struct Body {
     pub next: usize,
 }
 
-// The body of the section at a place, once the checks before it were made, with lists lent or none: the end, the header, check 8. Where there is none to read, what the section read answers, beside which its record is blank.
-#[tactic(auto, unfolding(crate::specs::Read::body_at, crate::specs::Read::body_in, crate::specs::Read::answer_at, crate::specs::Read::answer_in, crate::specs::Read::with_blank, crate::specs::Read::answered_with, crate::specs::Read::refused_with, crate::specs::Read::ended_with, crate::specs::Read::passed_with))]
+// The body of the section at a place, once the checks before it were made, with lists lent or none: the end, the header, check 8. Where there is none to read, what the section read answers: beside the blank record that is what it gives.
+#[tactic(auto, unfolding(crate::specs::Read::body_at, crate::specs::Read::body_in, crate::specs::Read::with_blank, crate::specs::Read::answered_with, crate::specs::Read::refused_with, crate::specs::Read::ended_with, crate::specs::Read::passed_with))]
 pub fn body_at<'a>(
     source: Source<'a>,
     place: usize,
     checked: Place,
 ) -> Result<Body, Result<Section, Refusal>>
     requires { (c : Cursor) → checked ≡ Ok c → (place ≤ length source.«data».now) × (length source.«data».now ≤ 16777216) }
-    ensures value { result ≡ answer_at source.entry.order source.entry.«data».now place checked }
-    ensures given { with_blank result ≡ body_at source.entry.order source.entry.«data».now place checked }
+    ensures { with_blank result ≡ body_at source.entry.order source.entry.«data».now place checked }
 {
     checked.map_err(Err)?;
     if place == source.data.len() {
